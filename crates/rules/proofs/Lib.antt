@@ -1,3 +1,4 @@
 pub mod Every
 pub mod Excess
 pub mod Table
+pub mod Bytes

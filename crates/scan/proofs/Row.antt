@@ -8,12 +8,12 @@ use mathlib.Core.Bool.{Bool, true, false, cond, _&&_}
 use mathlib.Core.List.{List, [], _∷_}
 use borrow.Author.Tests.{lt-ltb, le-ltb, ltb-true, ltb-false}
 use lib.Dec.{T, ltb, eqb, eqb→eq}
-use lib.ListN.{length, getD, replicate}
+use lib.ListN.{length}
 use Rattle.rules.specs.Shape.{Paren, opening, closing}
 use Rattle.rules.specs.Column.{least, leastOf}
 use Rattle.rules.specs.Excess.{excess, excesses, openings, closings, listOf}
 use Rattle.rules.specs.Bytes.{lowBits, paren}
-use Rattle.rules.proofs.Every.{every-at, and-left, and-right}
+use Rattle.rules.proofs.Every.{below-at, and-left, and-right}
 use Rattle.scan.specs.declared.Scan.{Scan}
 use Rattle.scan.specs.Rows.{total, lowest, firstLowest, cell}
 use Rattle.scan.specs.Scan.{seen, stepOf, scanOf, Ready}
@@ -83,13 +83,13 @@ start = record { excess = 8; smallest = 1048576; place = 0 }
 alone : ℕ → Scan
 alone b = scanOf start 0 (lowBits 8 b)
 
-right : ℕ → ℕ → Bool
-right b x =
+right : ℕ → Bool
+right b =
     eqb (alone b .excess) (total b) && (eqb (alone b .smallest) (lowest b) && eqb (alone b .place) (firstLowest b))
 
-tested : (b : ℕ) → b < 256 → T (right b (getD (replicate 256 0) b 0))
+tested : (b : ℕ) → b < 256 → T (right b)
 unfolding right alone start stepOf scanOf total lowest firstLowest least leastOf excess excesses openings closings listOf lowBits paren
-tested b h = every-at right 0 (replicate 256 0) tt b h
+tested b h = below-at 256 right tt b h
 
 -- row b, counted from 8
 unfoldable pub row : ℕ → Scan

@@ -3,8 +3,8 @@
 use mathlib.Core.Path.{_≡_, refl}
 use Prim.Native.Nat.{ℕ, zero, suc, _+_, _-_, _≤_, _<_, zero-le}
 use mathlib.Core.Bool.{Bool, true, false, cond}
-use mathlib.Core.List.{List, _∷_}
-use native.Mathlib.Nat.{le-refl, le-antisymm, add-zero, add-suc, zero-add, add-sub-of-le}
+use mathlib.Core.List.{List, [], _∷_}
+use native.Mathlib.Nat.{le-refl, le-antisymm, add-suc, zero-add, add-sub-of-le}
 use native.Mathlib.Decide.{decLe}
 use native.Mathlib.Omega.{arith}
 use borrow.Author.Tests.{ltb-true, ltb-false}
@@ -114,6 +114,13 @@ lowest-least {c} h i j a b l = least-unique (least-is c i j (omega arith)) (lowe
 
 pub lowest-smallest : {c : List ℕ} {q : ℕ} → Lowest c q → (k : ℕ) → k < length c → getD c q 0 ≤ getD c k 0
 lowest-smallest {c} {q} h k l = least-smallest (lowest-is h 0 (length c - 1) zero-le (omega (arith, h)) (omega arith)) k zero-le (omega arith)
+
+pub lowest-only : (a : ℕ) → Lowest (a ∷ []) 0
+lowest-only a = record { within = omega arith; before = λ k x. absurd (omega arith); after = λ k x y. at k y }
+  where
+    at : (k : ℕ) → k < 1 → a ≤ getD (a ∷ []) k 0
+    at zero y = le-refl a
+    at (suc k) y = absurd (omega arith)
 
 -- one more entry at the front, at most the smallest
 pub lowest-first : {c : List ℕ} {q a : ℕ} → Lowest c q → a ≤ getD c q 0 → Lowest (a ∷ c) 0

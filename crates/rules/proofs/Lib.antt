@@ -1,3 +1,4 @@
+pub mod Excess
 pub mod Table
 pub mod Least
 pub mod Shape

@@ -2,3 +2,4 @@ pub mod Excess
 pub mod Table
 pub mod Least
 pub mod Shape
+pub mod StandIn

@@ -1,0 +1,37 @@
+-- The stand-in column by a walk along the parentheses, which is how it is written and how the proofs go by it.
+-- Assumes nothing.
+use mathlib.Core.Path.{_≡_, refl, ap, _∙_}
+use Prim.Native.Nat.{ℕ, zero, suc, pred}
+use mathlib.Core.List.{List, [], _∷_}
+use native.Mathlib.Omega.{arith}
+use lib.ListN.{length}
+use Rattle.rules.specs.Shape.{Paren, opening, closing}
+use Rattle.rules.specs.Excess.{closings, closingPlace, excess, listOf, Balanced}
+use Rattle.rules.specs.StandIn.{standIn}
+use Rattle.rules.proofs.Excess.{length-listOf, listOf-ext, excess-opening-suc, excess-closing, excess-closing-suc, Kept, kept-opening, kept-closing, kept-not-closed}
+
+-- the excesses just after each closing, from an excess of e on
+unfoldable pub standInFrom : ℕ → List Paren → List ℕ
+standInFrom e [] = []
+standInFrom e (opening ∷ s) = standInFrom (suc e) s
+standInFrom e (closing ∷ s) = pred e ∷ standInFrom (pred e) s
+
+pub stand-in-length : (s : List Paren) → length (standIn s) ≡ closings s
+unfolding standIn
+stand-in-length s = length-listOf (closings s) (λ k. excess 0 s (closingPlace s k))
+
+-- a sequence begun at an excess of e
+pub stand-in-from : (e : ℕ) (s : List Paren) → Kept e s → listOf (closings s) (λ k. excess e s (closingPlace s k)) ≡ standInFrom e s
+unfolding standInFrom closings closingPlace listOf
+stand-in-from e [] h = refl
+stand-in-from e (opening ∷ s) h =
+    listOf-ext (closings s) _ _ (λ k l. excess-opening-suc e s (closingPlace s k)) ∙ stand-in-from (suc e) s (kept-opening e s h)
+stand-in-from zero (closing ∷ s) h = absurd (kept-not-closed s h)
+stand-in-from (suc e) (closing ∷ s) h =
+    rw (excess-closing e s)
+    (ap (λ (l : List ℕ). e ∷ l)
+    (listOf-ext (closings s) _ _ (λ k l. excess-closing-suc e s (closingPlace s k)) ∙ stand-in-from e s (kept-closing e s h)))
+
+pub stand-in-walk : (s : List Paren) → Balanced s → standIn s ≡ standInFrom 0 s
+unfolding standIn
+stand-in-walk s b = stand-in-from 0 s (record { above = λ k. omega (arith, b .above k); last = omega (arith, b) })

@@ -3,3 +3,5 @@ pub mod Table
 pub mod Least
 pub mod Shape
 pub mod StandIn
+pub mod ClosingPlace
+pub mod Between

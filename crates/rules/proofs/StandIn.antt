@@ -1,14 +1,14 @@
 -- The stand-in column by a walk along the parentheses, which is how it is written and how the proofs go by it.
 -- Assumes nothing.
 use mathlib.Core.Path.{_≡_, refl, ap, _∙_}
-use Prim.Native.Nat.{ℕ, zero, suc, pred}
+use Prim.Native.Nat.{ℕ, zero, suc, _<_, pred}
 use mathlib.Core.List.{List, [], _∷_}
 use native.Mathlib.Omega.{arith}
-use lib.ListN.{length}
+use lib.ListN.{length, getD}
 use Rattle.rules.specs.Shape.{Paren, opening, closing}
 use Rattle.rules.specs.Excess.{closings, closingPlace, excess, listOf, Balanced}
 use Rattle.rules.specs.StandIn.{standIn}
-use Rattle.rules.proofs.Excess.{length-listOf, listOf-ext, excess-opening-suc, excess-closing, excess-closing-suc, Kept, kept-opening, kept-closing, kept-not-closed}
+use Rattle.rules.proofs.Excess.{length-listOf, getD-listOf, listOf-ext, excess-opening-suc, excess-closing, excess-closing-suc, Kept, kept-opening, kept-closing, kept-not-closed}
 
 -- the excesses just after each closing, from an excess of e on
 unfoldable pub standInFrom : ℕ → List Paren → List ℕ
@@ -19,6 +19,10 @@ standInFrom e (closing ∷ s) = pred e ∷ standInFrom (pred e) s
 pub stand-in-length : (s : List Paren) → length (standIn s) ≡ closings s
 unfolding standIn
 stand-in-length s = length-listOf (closings s) (λ k. excess 0 s (closingPlace s k))
+
+pub stand-in-at : (s : List Paren) (k : ℕ) → k < closings s → getD (standIn s) k 0 ≡ excess 0 s (closingPlace s k)
+unfolding standIn
+stand-in-at s k h = getD-listOf (closings s) (λ k. excess 0 s (closingPlace s k)) k 0 h
 
 -- a sequence begun at an excess of e
 pub stand-in-from : (e : ℕ) (s : List Paren) → Kept e s → listOf (closings s) (λ k. excess e s (closingPlace s k)) ≡ standInFrom e s

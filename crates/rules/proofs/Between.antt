@@ -1,19 +1,19 @@
 -- The answer of an ask in the language of excess is the leftmost smallest entry of the stand-in: between two closings excess only rises, so the
 -- smallest excess from closing i to closing j stands at a closing. It holds of any sequence, balanced or not. Assumes nothing.
 use mathlib.Core.Path.{_≡_}
-use Prim.Native.Nat.{ℕ, suc, _+_, _-_, _≤_, _<_, pred}
+use Prim.Native.Nat.{ℕ, suc, _≤_, _<_, pred}
 use mathlib.Core.List.{List}
 use native.Mathlib.Numerals.{add-one}
 use native.Mathlib.Omega.{arith}
 use lib.ListN.{length, take, getD}
 use Rattle.rules.specs.Column.{IsLeast, least}
 use Rattle.rules.specs.Shape.{Paren}
-use Rattle.rules.specs.Excess.{openings, closings, closingPlace, excess, excesses, entryBetween}
+use Rattle.rules.specs.Excess.{closings, closingPlace, excess, excesses, entryBetween}
 use Rattle.rules.specs.StandIn.{standIn}
 use Rattle.rules.proofs.Least.{least-is, least-unique}
 use Rattle.rules.proofs.Excess.{excesses-at}
 use Rattle.rules.proofs.StandIn.{stand-in-at}
-use Rattle.rules.proofs.ClosingPlace.{openings-more, closings-more, closing-within, Stands, closing-stands, closing-among}
+use Rattle.rules.proofs.ClosingPlace.{openings-more, closings-more, closing-within, closing-stands, closing-among}
 
 -- at a closing the excess is the stand-in's entry
 at-closing : (s : List Paren) (k : ℕ) → k < closings s → getD (excesses 0 s) (closingPlace s k) 0 ≡ getD (standIn s) k 0

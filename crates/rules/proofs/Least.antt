@@ -3,14 +3,14 @@
 use mathlib.Core.Path.{_≡_, refl}
 use Prim.Native.Nat.{ℕ, zero, suc, _+_, _-_, _≤_, _<_, zero-le}
 use mathlib.Core.Bool.{Bool, true, false, cond}
-use mathlib.Core.List.{List, [], _∷_}
+use mathlib.Core.List.{List, [], _∷_, _++_}
 use native.Mathlib.Nat.{le-refl, le-antisymm, add-suc, zero-add, add-sub-of-le}
 use native.Mathlib.Decide.{decLe}
 use native.Mathlib.Omega.{arith}
 use borrow.Author.Tests.{ltb-true, ltb-false}
 use lib.Dec.{ltb}
-use lib.ListN.{length, take, drop, getD}
-use lib.Seq.{getD-take, getD-drop}
+use lib.ListN.{length, take, drop, getD, length-append, List·getD-append}
+use lib.Seq.{getD-take, getD-drop, getD-append-seam, getD-append-add}
 use Rattle.rules.specs.Column.{IsLeast, leastOf, least}
 
 -- its number is at most any other's
@@ -115,21 +115,31 @@ lowest-least {c} h i j a b l = least-unique (least-is c i j (omega arith)) (lowe
 pub lowest-smallest : {c : List ℕ} {q : ℕ} → Lowest c q → (k : ℕ) → k < length c → getD c q 0 ≤ getD c k 0
 lowest-smallest {c} {q} h k l = least-smallest (lowest-is h 0 (length c - 1) zero-le (omega (arith, h)) (omega arith)) k zero-le (omega arith)
 
-pub lowest-only : (a : ℕ) → Lowest (a ∷ []) 0
-lowest-only a = record { within = omega arith; before = λ k x. absurd (omega arith); after = λ k x y. at k y }
+-- an entry with greater ones before it and none smaller after it
+pub lowest-joined : (l : List ℕ) (m : ℕ) (r : List ℕ) → ((k : ℕ) → k < length l → m < getD l k 0) → ((k : ℕ) → k < length r → m ≤ getD r k 0) → Lowest (l ++ m ∷ r) (length l)
+lowest-joined l m r f g =
+    record {
+      within = simp length-append (omega arith);
+      before = λ k x. rw (getD-append-seam, List·getD-append l (m ∷ r) 0 k x) (f k x);
+      after = λ k x y. rw getD-append-seam (after k x (rw length-append at y));
+    }
   where
-    at : (k : ℕ) → k < 1 → a ≤ getD (a ∷ []) k 0
-    at zero y = le-refl a
-    at (suc k) y = absurd (omega arith)
+    from : (k : ℕ) → k < suc (length r) → m ≤ getD (m ∷ r) k 0
+    from zero x = le-refl m
+    from (suc k) x = g k (omega arith)
+
+    after : (k : ℕ) → length l ≤ k → k < length l + suc (length r) → m ≤ getD (l ++ m ∷ r) k 0
+    after k x y =
+        let e : length l + (k - length l) ≡ k = omega arith in
+        rw (← e, getD-append-add) (from (k - length l) (omega arith))
+
+pub lowest-only : (a : ℕ) → Lowest (a ∷ []) 0
+lowest-only a = lowest-joined [] a [] (λ k x. absurd (omega arith)) (λ k x. absurd (omega arith))
 
 -- one more entry at the front, at most the smallest
 pub lowest-first : {c : List ℕ} {q a : ℕ} → Lowest c q → a ≤ getD c q 0 → Lowest (a ∷ c) 0
 lowest-first {c} {q} {a} h l =
-    record { within = omega arith; before = λ k x. absurd (omega arith); after = λ k x y. at k y }
-  where
-    at : (k : ℕ) → k < suc (length c) → a ≤ getD (a ∷ c) k 0
-    at zero y = le-refl a
-    at (suc k) y = omega (arith, lowest-smallest h k (omega arith))
+    lowest-joined [] a c (λ k x. absurd (omega arith)) (λ k x. omega (arith, lowest-smallest h k x))
 
 -- one more entry at the front, above the smallest
 pub lowest-later : {c : List ℕ} {q a : ℕ} → Lowest c q → getD c q 0 < a → Lowest (a ∷ c) (suc q)

@@ -1,3 +1,5 @@
 pub mod Tree
 pub mod Ordered
 pub mod Written
+pub mod Parse
+pub mod StandInTree

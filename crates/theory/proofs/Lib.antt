@@ -3,3 +3,4 @@ pub mod Ordered
 pub mod Written
 pub mod Parse
 pub mod StandInTree
+pub mod Agree

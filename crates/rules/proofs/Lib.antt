@@ -1,3 +1,4 @@
+pub mod Every
 pub mod Excess
 pub mod Table
 pub mod Least
@@ -5,3 +6,5 @@ pub mod Shape
 pub mod StandIn
 pub mod ClosingPlace
 pub mod Between
+pub mod Bytes
+pub mod Same

@@ -1,5 +1,10 @@
 pub mod Every
 pub mod Excess
 pub mod Table
+pub mod Least
+pub mod Shape
+pub mod StandIn
+pub mod ClosingPlace
+pub mod Between
 pub mod Bytes
 pub mod Same

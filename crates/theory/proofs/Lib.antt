@@ -1,1 +1,6 @@
 pub mod Tree
+pub mod Ordered
+pub mod Written
+pub mod Parse
+pub mod StandInTree
+pub mod Agree

@@ -2,13 +2,13 @@
 use scan::Scan;
 use crate::byte;
 ghost use mathlib.Core.Path.{_≡_};
-ghost use Prim.Native.Nat.{_+_, _*_, _≤_, _<_};
-ghost use lib.ListN.{length, take};
-ghost use Rattle.rules.specs.Excess.{closings, closingPlace};
+ghost use Prim.Native.Nat.{_+_};
+ghost use lib.ListN.{take};
+ghost use Rattle.rules.specs.Excess.{closingPlace};
 ghost use Rattle.rules.specs.Bytes.{allBits};
 ghost use Rattle.scan.specs.Rows.{rows};
-ghost use Rattle.scan.specs.Scan.{Ready, scanOf};
-ghost use Rattle.ask.specs.Part.{Stops};
+ghost use Rattle.scan.specs.Scan.{scanOf};
+ghost use Rattle.ask.specs.Part.{Ahead, Stops};
 
 // The byte in which a closing stands and its bit there, with the state before that byte.
 pub struct Stop {
@@ -20,7 +20,7 @@ pub struct Stop {
 // Closing number k of these bytes, the first of whose parentheses stands at place at. Up to the end of
 // byte m the excess falls by two for each closing, less one for each parenthesis.
 pub fn seek(st: Scan, t: &[i8; 768], part: &[u8], at: usize, k: usize) -> Stop
-    requires { ⌜ (now t ≡ rows) × Ready st (8 * length (now part)) × (at + 8 * length (now part) ≤ 1048576) × (k < closings (allBits (now part))) ⌝ }
+    requires { ⌜ (now t ≡ rows) × Ahead st at (now part) k ⌝ }
     ensures { λ r. ⌜ Stops st at (now (part .entry)) k r ⌝ }
 {
     let ground = st.excess;
@@ -42,7 +42,7 @@ pub fn seek(st: Scan, t: &[i8; 768], part: &[u8], at: usize, k: usize) -> Stop
 
 // The state just behind closing number k of these bytes.
 pub fn through(st: Scan, t: &[i8; 768], part: &[u8], at: usize, k: usize) -> Scan
-    requires { ⌜ (now t ≡ rows) × Ready st (8 * length (now part)) × (at + 8 * length (now part) ≤ 1048576) × (k < closings (allBits (now part))) ⌝ }
+    requires { ⌜ (now t ≡ rows) × Ahead st at (now part) k ⌝ }
     ensures { λ r. ⌜ r ≡ scanOf st at (take (closingPlace (allBits (now (part .entry))) k + 1) (allBits (now (part .entry)))) ⌝ }
 {
     let stop = seek(st, t, part, at, k);

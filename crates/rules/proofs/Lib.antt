@@ -9,3 +9,4 @@ pub mod Between
 pub mod Bytes
 pub mod Same
 pub mod Parts
+pub mod Counted

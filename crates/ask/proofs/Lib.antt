@@ -2,3 +2,4 @@ pub mod Opened
 pub mod Fillers
 pub mod Seek
 pub mod Seen
+pub mod FromClosing

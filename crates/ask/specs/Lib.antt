@@ -1,3 +1,4 @@
 pub mod Byte
 pub mod Part
 pub mod Lowest
+pub mod Passed

@@ -3,3 +3,5 @@ pub mod Fillers
 pub mod Seek
 pub mod Seen
 pub mod FromClosing
+pub mod Answered
+pub mod Says

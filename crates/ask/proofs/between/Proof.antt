@@ -1,47 +1,50 @@
+-- `ask::between` meets its contract: the scan ends with the place of the answer's closing and the excess there, which tell its number.
+-- Assumes nothing.
+use mathlib.Core.Path.{ap, _∙_}
+use native.Mathlib.Omega.{arith}
+use mathlib.Core.List.{List}
+use Prim.Native.Nat.{ℕ}
+use Rattle.rules.specs.Excess.{entryBetween}
+use Rattle.rules.specs.Bytes.{entries, parens}
+use Rattle.ask.proofs.Answered.{Names, body, asked, names}
 use borrow.Author.Needs.{needs}
 use Rattle.ask.proofs.between.Statement.{statement}
 use Rattle.ask.proofs.between.Tie as tie
-use Rattle.ask.proofs.between.Reads as reads
-use Rattle.ask.proofs.between.Lts as lts
-use Rattle.ask.proofs.closings.Reads as closings-reads
-use Rattle.ask.proofs.lowest.Reads as lowest-reads
-use Rattle.scan.proofs.table.Reads as table-reads
 
--- src/lib.rt:62:13
+named : (c : tie.After-lowest)
+    → let a = c .before .before .before .before .before .args in Names (c .lowest .result) (entryBetween (parens (entries (a .bytes .now)) (a .bytes .now)) (a .i) (a .j))
+named c =
+    let h = c .before .before .before .before .before .pre in
+    names h (rw (body h) at (c .lowest .ensures))
+
 table-requires : tie.Need-table-requires
 table-requires c κs = search needs
 
--- src/lib.rt:63:26
 sub-lowest : tie.Need-sub-lowest
 sub-lowest c = search needs
 
--- src/lib.rt:63:26
 part-lowest-start : tie.Need-part-lowest-start
 part-lowest-start c = search needs
 
--- src/lib.rt:63:26
 part-lowest-end : tie.Need-part-lowest-end
 part-lowest-end c = search needs
 
--- src/lib.rt:63:9
 lowest-requires : tie.Need-lowest-requires
-lowest-requires c κs = ?
+lowest-requires c κs =
+    let h = c .before .before .before .before .pre in
+    (c .before .before .table .ensures, rw (body h) (asked h))
 
--- src/lib.rt:64:14
 add-closings : tie.Need-add-closings
-add-closings c = ?
+add-closings c = omega (arith, named (c .before))
 
--- src/lib.rt:64:5
 closings-requires : tie.Need-closings-requires
-closings-requires c κs = ?
+closings-requires c κs = omega (arith, named (c .before))
 
--- src/lib.rt:64:5
 sub-result : tie.Need-sub-result
-sub-result c = ?
+sub-result c = omega (arith, c .closings .ensures, named (c .before .before))
 
--- src/lib.rt:58:1
 returns : tie.Need-returns
-returns c = ?
+returns c = omega (arith, c .closings .ensures, named (c .before .before))
 
 pub between-spec : {M : Type 1} → statement M
 between-spec =

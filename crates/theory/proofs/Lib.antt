@@ -1,1 +1,2 @@
+pub mod Spine
 pub mod Tree

@@ -29,11 +29,10 @@ impl Pen {
         let mut held = self.held;
         let mut acc = self.acc;
         let mut more = count;
-        while 8 <= held + more {
-            let room = 8 - held;
+        while 8 - held <= more {
             left -= 1;
-            out[4 + left] = (((acc + 1) << room) - 1) as u8;
-            more -= room;
+            out[4 + left] = (((acc + 1) << (8 - held)) - 1) as u8;
+            more -= 8 - held;
             held = 0;
             acc = 0;
         }

@@ -1,4 +1,9 @@
+-- `build::Pen::closes` meets its contract: the closing is held, or fills the byte, which is stored. Assumes nothing.
+use native.Mathlib.Omega.{arith}
+use Prim.Native.Nat.{_+_, _*_, _<_}
+use mathlib.Core.List.{[], _∷_}
 use borrow.Author.Needs.{needs}
+use Rattle.build.proofs.Writing.{adds-closed, adds-byte, holds-more, stores}
 use Rattle.build.proofs.Pen.closes.Statement.{statement}
 use Rattle.build.proofs.Pen.closes.Tie as tie
 use Rattle.build.proofs.Pen.closes.Reads as reads
@@ -10,11 +15,11 @@ add-held c = search needs
 
 -- src/lib.rt:52:19
 mul-acc : tie.Need-mul-acc
-mul-acc c = ?
+mul-acc c = omega (arith, adds-byte (c .before .before .pre) (adds-closed (c .before .before .args .self)) (omega arith))
 
 -- src/lib.rt:54:13
 returns : tie.Need-returns
-returns c = ?
+returns c = holds-more _ _ _ _ _ (omega arith) (omega arith) (adds-closed (c .before .before .before .args .self))
 
 -- src/lib.rt:60:20
 sub-left : tie.Need-sub-left
@@ -22,7 +27,7 @@ sub-left c = search needs
 
 -- src/lib.rt:61:25
 cast-out : tie.Need-cast-out
-cast-out c = ?
+cast-out c = omega (arith, adds-byte (c .before .before .before .before .pre) (adds-closed (c .before .before .before .before .args .self)) (omega arith))
 
 -- src/lib.rt:61:13
 add-out : tie.Need-add-out
@@ -38,7 +43,7 @@ same-length c = search needs
 
 -- src/lib.rt:47:5
 returns-2 : tie.Need-returns-2
-returns-2 c = ?
+returns-2 c = stores _ _ _ _ (omega arith) (omega arith) (omega arith) (adds-closed (c .before .before .before .before .args .self))
 
 pub closes-spec : {M : Type 1} → statement M
 closes-spec =

@@ -49,14 +49,14 @@ stores a p o v e some fits adds =
       room = omega arith;
       same = length-set o _ v;
       front = λ {m} {rest} {s} w.
-        let less : m - (p .left - 1) ≡ suc (m - p .left) = omega arith in
-        let next : suc (4 + (p .left - 1)) ≡ 4 + p .left = omega arith in
-        record {
-        few = omega arith;
-        within = omega (arith, w .within);
-        holds = refl;
-        bytes = rw (drop-set o (4 + (p .left - 1)) v (omega arith), less, next, byte a s (p .held) (m - p .left) e, ← (adds .is s (w .holds)), w .bytes);
-      };
+          let less : m - (p .left - 1) ≡ suc (m - p .left) = omega arith in
+          let next : suc (4 + (p .left - 1)) ≡ 4 + p .left = omega arith in
+          record {
+            few = omega arith;
+            within = omega (arith, w .within);
+            holds = refl;
+            bytes = rw (drop-set o (4 + (p .left - 1)) v (omega arith), less, next, byte a s (p .held) (m - p .left) e, ← (adds .is s (w .holds)), w .bytes);
+          };
     }
 
 -- eight parentheses or fewer are a byte's number
@@ -65,7 +65,7 @@ small a s h le = rw (← (take-append-add a s h)) (lt-of-lt-of-le (bits-below (l
 
 -- what the shift gives, one more than the number of the openings in front of those held
 pub shifted : (s : List Paren) (h k acc : ℕ) → acc ≡ bits (take h s) → k + h ≤ 8 → ((acc + 1) * 2 ^ k) % 2 ^ 32 ≡ suc (bits (replicate k opening ++ take h s))
-shifted s h k acc e le = 
+shifted s h k acc e le =
     let few : length (replicate k opening) + h ≤ 8 = rw length-replicate le in
     let is : (acc + 1) * 2 ^ k ≡ suc (bits (replicate k opening ++ take h s)) = rw (add-one, e) (sym (bits-opened k (take h s))) in
     rw is (mod-eq-of-lt (omega (arith, small (replicate k opening) s h few)))

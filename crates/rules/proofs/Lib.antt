@@ -1,2 +1,11 @@
-pub mod Bits
+pub mod Every
+pub mod Excess
 pub mod Table
+pub mod Least
+pub mod Shape
+pub mod StandIn
+pub mod ClosingPlace
+pub mod Between
+pub mod Bytes
+pub mod Same
+pub mod Bits

@@ -1,4 +1,4 @@
--- Where closing number k stands: after k closings, and before any place that has more behind it.
+-- Where closing number k stands: k closings are before it, and it is among any parentheses that have more than k.
 -- Each law holds of any sequence of parentheses. Assumes nothing.
 use mathlib.Core.Path.{_≡_, refl, ap}
 use Prim.Native.Nat.{ℕ, zero, suc, _+_, _-_, _≤_, _<_}
@@ -11,16 +11,17 @@ use Rattle.rules.specs.Excess.{openings, closings, closingPlace}
 use Rattle.rules.proofs.Excess.{openings-append, closings-append}
 
 -- a longer part has no fewer of anything that is counted
-more : (count : List Paren → ℕ) → ((s t : List Paren) → count (s ++ t) ≡ count s + count t) → (s : List Paren) (a b : ℕ) → a ≤ b → count (take a s) ≤ count (take b s)
-more count append s a b h =
+counted-more : (count : List Paren → ℕ) → ((s t : List Paren) → count (s ++ t) ≡ count s + count t)
+    → (s : List Paren) (a b : ℕ) → a ≤ b → count (take a s) ≤ count (take b s)
+counted-more count append s a b h =
     let e : a + (b - a) ≡ b = omega arith in
     omega (arith, rw (e, append) at (ap count (take-add a (b - a) s)))
 
 pub openings-more : (s : List Paren) (a b : ℕ) → a ≤ b → openings (take a s) ≤ openings (take b s)
-openings-more = more openings openings-append
+openings-more = counted-more openings openings-append
 
 pub closings-more : (s : List Paren) (a b : ℕ) → a ≤ b → closings (take a s) ≤ closings (take b s)
-closings-more = more closings closings-append
+closings-more = counted-more closings closings-append
 
 pub closing-within : (s : List Paren) (k : ℕ) → k < closings s → closingPlace s k < length s
 unfolding closings closingPlace
@@ -29,20 +30,20 @@ closing-within (opening ∷ s) k h = omega (arith, closing-within s k h)
 closing-within (closing ∷ s) zero h = omega arith
 closing-within (closing ∷ s) (suc k) h = omega (arith, closing-within s k (omega arith))
 
--- k closings stand before closing number k
+-- k closings are before parenthesis b, and one more up to and with it
 pub record Stands (s : List Paren) (k b : ℕ) : Type 0 where
   pub before : closings (take b s) ≡ k
-  pub withIt : closings (take (suc b) s) ≡ suc k
+  pub upto : closings (take (suc b) s) ≡ suc k
 
 pub closing-stands : (s : List Paren) (k : ℕ) → k < closings s → Stands s k (closingPlace s k)
 unfolding closings closingPlace
 closing-stands [] k h = absurd (omega arith)
-closing-stands (opening ∷ s) k h = let r = closing-stands s k h in record { before = r .before; withIt = r .withIt }
-closing-stands (closing ∷ s) zero h = record { before = refl; withIt = refl }
+closing-stands (opening ∷ s) k h = let r = closing-stands s k h in record { before = r .before; upto = r .upto }
+closing-stands (closing ∷ s) zero h = record { before = refl; upto = refl }
 closing-stands (closing ∷ s) (suc k) h =
-    let r = closing-stands s k (omega arith) in record { before = ap suc (r .before); withIt = ap suc (r .withIt) }
+    let r = closing-stands s k (omega arith) in record { before = ap suc (r .before); upto = ap suc (r .upto) }
 
--- among the first b parentheses
+-- it is among the first b parentheses where these have more than k closings
 pub closing-among : (s : List Paren) (k b : ℕ) → k < closings (take b s) → closingPlace s k < b
 unfolding closings closingPlace
 closing-among s k zero h = absurd (omega arith)
@@ -50,3 +51,7 @@ closing-among [] k (suc b) h = absurd (omega arith)
 closing-among (opening ∷ s) k (suc b) h = omega (arith, closing-among s k b h)
 closing-among (closing ∷ s) zero (suc b) h = omega arith
 closing-among (closing ∷ s) (suc k) (suc b) h = omega (arith, closing-among s k b (omega arith))
+
+pub closing-order : (s : List Paren) (i k : ℕ) → i ≤ k → k < closings s → closingPlace s i ≤ closingPlace s k
+closing-order s i k h l =
+    omega (arith, closing-among s i (suc (closingPlace s k)) (omega (arith, closing-stands s k l)))

@@ -73,13 +73,18 @@ least-unique {c} {i} {j} {p} {q} x y = le-antisymm (not-past x y) (not-past y x)
 -- ---- parts of a list
 
 -- c's numbers up to place j are d's from place k on
-moved : {c : List ℕ} {i j q : ℕ} (d : List ℕ) (k : ℕ) → ((x : ℕ) → x ≤ j → getD c x 0 ≡ getD d (k + x) 0) → IsLeast c i j q → IsLeast d (k + i) (k + j) (k + q)
+moved : {c : List ℕ} {i j q : ℕ} (d : List ℕ) (k : ℕ) → ((x : ℕ) → x ≤ j → getD c x 0 ≡ getD d (k + x) 0)
+    → IsLeast c i j q → IsLeast d (k + i) (k + j) (k + q)
 moved {c} {i} {j} {q} d k s h =
     record {
       from = omega (arith, h);
       upto = omega (arith, h);
-      before = λ x a b. let l : x - k ≤ j = omega (arith, h) in omega (arith, h .before (x - k) (omega arith) (omega arith), s q (h .upto), at x (omega arith) l);
-      after = λ x a b. let l : x - k ≤ j = omega (arith, h) in omega (arith, h .after (x - k) (omega arith) l, s q (h .upto), at x (omega arith) l);
+      before = λ x a b.
+          let l : x - k ≤ j = omega (arith, h) in
+          omega (arith, h .before (x - k) (omega arith) (omega arith), s q (h .upto), at x (omega arith) l);
+      after = λ x a b.
+          let l : x - k ≤ j = omega (arith, h) in
+          omega (arith, h .after (x - k) (omega arith) l, s q (h .upto), at x (omega arith) l);
     }
   where
     at : (x : ℕ) → k ≤ x → x - k ≤ j → getD c (x - k) 0 ≡ getD d x 0
@@ -116,7 +121,8 @@ pub lowest-smallest : {c : List ℕ} {q : ℕ} → Lowest c q → (k : ℕ) → 
 lowest-smallest {c} {q} h k l = least-smallest (lowest-is h 0 (length c - 1) zero-le (omega (arith, h)) (omega arith)) k zero-le (omega arith)
 
 -- an entry with greater ones before it and none smaller after it
-pub lowest-joined : (l : List ℕ) (m : ℕ) (r : List ℕ) → ((k : ℕ) → k < length l → m < getD l k 0) → ((k : ℕ) → k < length r → m ≤ getD r k 0) → Lowest (l ++ m ∷ r) (length l)
+pub lowest-joined : (l : List ℕ) (m : ℕ) (r : List ℕ) → ((k : ℕ) → k < length l → m < getD l k 0)
+    → ((k : ℕ) → k < length r → m ≤ getD r k 0) → Lowest (l ++ m ∷ r) (length l)
 lowest-joined l m r f g =
     record {
       within = simp length-append (omega arith);

@@ -39,7 +39,8 @@ pub shape-none : shape [] ≡ []
 unfolding shape shapeOf
 shape-none = refl
 
-pub shape-some : (c : List ℕ) → 0 < length c → shape c ≡ opening ∷ shape (take (least c 0 (length c - 1)) c) ++ closing ∷ shape (drop (least c 0 (length c - 1) + 1) c)
+pub shape-some : (c : List ℕ) → 0 < length c
+    → shape c ≡ opening ∷ shape (take (least c 0 (length c - 1)) c) ++ closing ∷ shape (drop (least c 0 (length c - 1) + 1) c)
 unfolding shape shapeOf
 shape-some [] h = absurd (omega arith)
 shape-some (x ∷ c) h =

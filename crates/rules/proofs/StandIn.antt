@@ -7,9 +7,10 @@ use native.Mathlib.Decide.{decLt}
 use native.Mathlib.Omega.{arith}
 use lib.ListN.{length, getD, take-append-drop, List·getD-eq-default}
 use Rattle.rules.specs.Shape.{Paren, opening, closing}
-use Rattle.rules.specs.Excess.{openings, closings, closingPlace, excess, listOf, Balanced}
+use Rattle.rules.specs.Excess.{openings, closings, closingPlace, excess, listOf, Balanced, balanced}
 use Rattle.rules.specs.StandIn.{standIn}
-use Rattle.rules.proofs.Excess.{openings-append, length-listOf, getD-listOf, listOf-ext, excess-opening-suc, excess-closing, excess-closing-suc, Kept, kept-opening, kept-closing, kept-not-closed}
+use Rattle.rules.proofs.Excess.{openings-append, length-listOf, getD-listOf, listOf-ext, excess-opening-suc, excess-closing, excess-closing-suc}
+use Rattle.rules.proofs.Excess.{Kept, kept-opening, kept-closing, kept-not-closed, kept-is, is-balanced}
 
 -- the excesses just after each closing, from an excess of e on
 unfoldable pub standInFrom : ℕ → List Paren → List ℕ
@@ -38,8 +39,8 @@ stand-in-from (suc e) (closing ∷ s) h =
     (listOf-ext (closings s) _ _ (λ k l. excess-closing-suc e s (closingPlace s k)) ∙ stand-in-from e s (kept-closing e s h)))
 
 pub stand-in-walk : (s : List Paren) → Balanced s → standIn s ≡ standInFrom 0 s
-unfolding standIn
-stand-in-walk s b = stand-in-from 0 s (record { above = λ k. omega (arith, b .above k); last = omega (arith, b) })
+unfolding standIn balanced
+stand-in-walk s b = stand-in-from 0 s (kept-is 0 s (is-balanced s b))
 
 -- its entries are no greater than their number
 pub stand-in-bound : (s : List Paren) → Balanced s → (k : ℕ) → getD (standIn s) k 0 ≤ closings s

@@ -31,14 +31,17 @@ module _ (l : List ℕ) (m : ℕ) (r : List ℕ) (i j : ℕ) (h : i ≤ j) where
 
 -- two that are cut where both are lowest, and whose parts are alike, are alike
 module _ (l d : List ℕ) (m n : ℕ) (r e : List ℕ) (p : length l ≡ length d) (q : length r ≡ length e) where
-  alike-after : Alike (length r) r e → (i j : ℕ) → i ≤ j → j < length r → least (l ++ m ∷ r) (length l + 1 + i) (length l + 1 + j) ≡ least (d ++ n ∷ e) (length l + 1 + i) (length l + 1 + j)
+  alike-after : Alike (length r) r e → (i j : ℕ) → i ≤ j → j < length r
+      → least (l ++ m ∷ r) (length l + 1 + i) (length l + 1 + j) ≡ least (d ++ n ∷ e) (length l + 1 + i) (length l + 1 + j)
   alike-after g i j a b = least-after l m r i j a ∙ rw (g .same i j a b, p) (sym (least-after d n e i j a))
 
-  alike-joined : Lowest (l ++ m ∷ r) (length l) → Lowest (d ++ n ∷ e) (length d) → Alike (length l) l d → Alike (length r) r e → Alike (length (l ++ m ∷ r)) (l ++ m ∷ r) (d ++ n ∷ e)
+  alike-joined : Lowest (l ++ m ∷ r) (length l) → Lowest (d ++ n ∷ e) (length d) → Alike (length l) l d → Alike (length r) r e
+      → Alike (length (l ++ m ∷ r)) (l ++ m ∷ r) (d ++ n ∷ e)
   alike-joined x y f g =
       record { same = λ i j a b. by i j a (rw length-append at b) (decLt j (length l)) (decLt (length l) i) }
     where
-      by : (i j : ℕ) → i ≤ j → j < length l + suc (length r) → Dec (j < length l) → Dec (length l < i) → least (l ++ m ∷ r) i j ≡ least (d ++ n ∷ e) i j
+      by : (i j : ℕ) → i ≤ j → j < length l + suc (length r) → Dec (j < length l) → Dec (length l < i)
+          → least (l ++ m ∷ r) i j ≡ least (d ++ n ∷ e) i j
       by i j a b (yes t) u = least-before l m r i j a t ∙ f .same i j a t ∙ sym (least-before d n e i j a (omega arith))
       by i j a b (no t) (yes u) =
           let ei : length l + 1 + (i - (length l + 1)) ≡ i = omega arith in
@@ -88,12 +91,21 @@ shapes-alike c d e = record { same = same }
 -- the other way: what is alike to a column cut at m has parts alike to its parts
 module _ (l : List ℕ) (m : ℕ) (r d : List ℕ) (h : Alike (length (l ++ m ∷ r)) (l ++ m ∷ r) d) where
   alike-part-before : Alike (length l) l (take (length l) d)
-  alike-part-before =
-      record { same = λ i j a b. sym (least-before l m r i j a b) ∙ h .same i j a (rw length-append (omega arith)) ∙ least-take (length l) d i j a b }
+  alike-part-before = record { same = same }
+    where
+      same : (i j : ℕ) → i ≤ j → j < length l → least l i j ≡ least (take (length l) d) i j
+      same i j a b =
+          sym (least-before l m r i j a b) ∙ h .same i j a (rw length-append (omega arith)) ∙ least-take (length l) d i j a b
 
   alike-part-after : Alike (length r) r (drop (length l + 1) d)
-  alike-part-after =
-      record { same = λ i j a b. add-left-cancel (length l + 1) (sym (least-after l m r i j a) ∙ h .same (length l + 1 + i) (length l + 1 + j) (omega arith) (rw length-append (omega arith)) ∙ least-drop (length l + 1) d i j a) }
+  alike-part-after = record { same = same }
+    where
+      same : (i j : ℕ) → i ≤ j → j < length r → least r i j ≡ least (drop (length l + 1) d) i j
+      same i j a b =
+          add-left-cancel (length l + 1)
+          (sym (least-after l m r i j a)
+          ∙ h .same (length l + 1 + i) (length l + 1 + j) (omega arith) (rw length-append (omega arith))
+          ∙ least-drop (length l + 1) d i j a)
 
 -- so it has the tree's shape
 alike-written : (t : Tree) (d : List ℕ) → Ordered t → length (column t) ≡ length d → Alike (length (column t)) (column t) d → written t ≡ shape d

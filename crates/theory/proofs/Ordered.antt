@@ -43,7 +43,7 @@ ordered-shape (node l m r) o =
     let L : List ℕ = column l in
     let R : List ℕ = column r in
     let some : 0 < length (L ++ m ∷ R) = simp length-append (omega arith) in
-    let p : least (L ++ m ∷ R) 0 (length (L ++ m ∷ R) - 1) ≡ length L = lowest-least (o .1) 0 (length (L ++ m ∷ R) - 1) zero-le (omega (arith, o .1)) (omega arith) in
+    let p : least (L ++ m ∷ R) 0 (length (L ++ m ∷ R) - 1) ≡ length L = lowest-least (o .1) 0 _ zero-le (omega (arith, o .1)) (omega arith) in
     rw (shape-some, p, take-append-seam, drop-append-add L (m ∷ R) 1, ordered-shape l (o .0), ordered-shape r (o .2))
 
 pub shape-tree : (c : List ℕ) → shape c ≡ written (treeOf c)

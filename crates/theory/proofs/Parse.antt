@@ -5,8 +5,8 @@ use Prim.Native.Nat.{ℕ, zero, suc}
 use mathlib.Core.List.{List, [], _∷_, _++_, append-assoc}
 use native.Mathlib.Omega.{arith}
 use Rattle.rules.specs.Shape.{Paren, opening, closing}
-use Rattle.rules.specs.Excess.{openings, closings, Balanced}
-use Rattle.rules.proofs.Excess.{Kept, kept-opening, kept-closing, kept-not-closed}
+use Rattle.rules.specs.Excess.{openings, closings, Balanced, balanced}
+use Rattle.rules.proofs.Excess.{Kept, kept-opening, kept-closing, kept-not-closed, kept-is, is-balanced}
 use Rattle.theory.proofs.Tree.{Tree, tip, node, written}
 
 data Trees : ℕ → List Paren → Type 0 where
@@ -28,7 +28,8 @@ parsed zero (closing ∷ s) h = absurd (kept-not-closed s h)
 parsed (suc e) (closing ∷ s) h = more tip (parsed e s (kept-closing e s h))
 
 pub balanced-tree : (s : List Paren) → Balanced s → (t : Tree) × (written t ≡ s)
-balanced-tree s b = whole (parsed 0 s (record { above = λ k. omega (arith, b .above k); last = omega (arith, b) }))
+unfolding balanced
+balanced-tree s b = whole (parsed 0 s (kept-is 0 s (is-balanced s b)))
   where
     whole : {s : List Paren} → Trees 0 s → (t : Tree) × (written t ≡ s)
     whole (one t) = (t, refl)

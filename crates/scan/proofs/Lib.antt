@@ -1,0 +1,4 @@
+pub mod Cells
+pub mod Row
+pub mod Laws
+pub mod Masks

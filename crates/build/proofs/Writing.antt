@@ -12,7 +12,7 @@ use lib.Pow.{pow-mono}
 use Rattle.rules.specs.Shape.{Paren, opening, closing}
 use Rattle.rules.specs.Bytes.{bit, bits, bytesOf}
 use Rattle.rules.proofs.Bits.{bits-opened, bits-below}
-use Rattle.build.specs.declared.Pen.{Pen}
+use Rattle.build.specs.declared.pen.Pen.{Pen}
 use Rattle.build.specs.Writes.{Penned, Ready, Writes}
 
 -- v is the number of the parentheses a in front of those that p holds

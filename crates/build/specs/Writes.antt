@@ -5,7 +5,7 @@ use mathlib.Core.List.{List, _++_}
 use lib.ListN.{length, take, drop}
 use Rattle.rules.specs.Shape.{Paren}
 use Rattle.rules.specs.Bytes.{bits, bytesOf}
-use Rattle.build.specs.declared.Pen.{Pen}
+use Rattle.build.specs.declared.pen.Pen.{Pen}
 
 -- of m bytes the last ones stand in the output o, in front of rest; the first parentheses of s are still held
 pub record Penned (m : ℕ) (rest : List ℕ) (p : Pen) (o : List ℕ) (s : List Paren) : Type 0 where

@@ -2,10 +2,10 @@ use Prim.Native.Nat.{_-_}
 use lib.ListN.{length-replicate}
 use native.Mathlib.Omega.{arith}
 use Rattle.build.proofs.Writing.{Opening, none-opened, more-opened, all-opened, shift-fits, adds-opened, holds-more, stores}
-use Rattle.build.proofs.Pen.opens.Statement.{statement}
-use Rattle.build.proofs.Pen.opens.Tie as tie
-use Rattle.build.proofs.Pen.opens.Reads as reads
-use Rattle.build.proofs.Pen.opens.Lts as lts
+use Rattle.build.proofs.pen.Pen.opens.Statement.{statement}
+use Rattle.build.proofs.pen.Pen.opens.Tie as tie
+use Rattle.build.proofs.pen.Pen.opens.Reads as reads
+use Rattle.build.proofs.pen.Pen.opens.Lts as lts
 
 abbrev Inv-loop : tie.InvT-loop
 Inv-loop out₀ count left₀ held₀ acc₀ more₀ out left held acc more =

@@ -4,10 +4,10 @@ use Prim.Native.Nat.{_+_, _*_, _<_}
 use mathlib.Core.List.{[], _∷_}
 use borrow.Author.Needs.{needs}
 use Rattle.build.proofs.Writing.{adds-closed, adds-byte, holds-more, stores}
-use Rattle.build.proofs.Pen.closes.Statement.{statement}
-use Rattle.build.proofs.Pen.closes.Tie as tie
-use Rattle.build.proofs.Pen.closes.Reads as reads
-use Rattle.build.proofs.Pen.closes.Lts as lts
+use Rattle.build.proofs.pen.Pen.closes.Statement.{statement}
+use Rattle.build.proofs.pen.Pen.closes.Tie as tie
+use Rattle.build.proofs.pen.Pen.closes.Reads as reads
+use Rattle.build.proofs.pen.Pen.closes.Lts as lts
 
 -- src/lib.rt:51:20
 add-held : tie.Need-add-held

@@ -41,30 +41,38 @@ fn body(column: &[u32], work: &mut [u16], out: &mut [u8])
     ensures { λ _. ⌜ Bodied (now (column .entry)) (now (work .entry)) (now (out .entry)) (now (work .exit)) (now (out .exit)) ⌝ }
 {
     let n = column.len();
-    let mut pen = Pen {
-        left: (n + 3) / 4,
-        held: (8 - 2 * (n % 4)) % 8,
-        acc: 0,
-    };
+    let left = (n + 3) / 4;
+    let held = (8 - 2 * (n % 4)) % 8;
+    let mut pen = Pen { left, held, acc: 0 };
     let mut h = 0;
+    let mut top = 0;
     let mut i = n;
     while 0 < i {
         i -= 1;
-        let k = keep(column, work, h, column[i]);
+        let a = column[i];
+        let k = keep(column, work, h, top, a);
         pen = pen.opens(out, h - k);
         pen = pen.closes(out);
         work[k] = i as u16;
         h = k + 1;
+        top = a;
     }
     pen.opens(out, h);
 }
 
-// How many of the h places on the stack stay when the entry a comes: those with a smaller entry.
-fn keep(column: &[u32], work: &[u16], h: usize, a: u32) -> usize
-    requires { ⌜ Stacked (now column) (now work) h ⌝ }
+// How many of the h places on the stack stay when the entry a comes: those with a smaller entry. The
+// topmost place's entry is at hand, so that the first test waits for no other.
+fn keep(column: &[u32], work: &[u16], h: usize, top: u32, a: u32) -> usize
+    requires { ⌜ Stacked (now column) (now work) h top ⌝ }
     ensures { λ r. ⌜ Keeps (now (column .entry)) (now (work .entry)) h a r ⌝ }
 {
-    let mut k = h;
+    if h == 0 {
+        return 0;
+    }
+    if top < a {
+        return h;
+    }
+    let mut k = h - 1;
     while 0 < k {
         let p = work[k - 1] as usize;
         if column[p] < a {

@@ -1,19 +1,18 @@
 -- The pass over the column, an entry a turn from the right: the stack is the left spine of the tree of the entries passed, and all of the
 -- tree's parentheses are written but the spine's openings. Assumes nothing.
-use mathlib.Core.Path.{_≡_, refl, ap, sym, _∙_}
-use Prim.Native.Nat.{ℕ, zero, suc, _+_, _-_, _*_, _/_, _%_, _≤_, _<_}
+use mathlib.Core.Path.{_≡_, refl, ap, _∙_}
+use Prim.Native.Nat.{ℕ, suc, _+_, _-_, _*_, _/_, _%_, _≤_, _<_}
 use native.Mathlib.Nat.{sub-self, sub-zero, le-refl}
 use native.Mathlib.Numerals.{add-one}
 use native.Mathlib.Omega.{arith}
-use mathlib.Core.Bool.{Bool, true, false}
 use mathlib.Core.List.{List, [], _∷_, _++_}
 use borrow.Author.Count.{below-more}
 use lib.Arith.{le-zero}
-use lib.ListN.{length, take, drop, getD, set, replicate, length-set, length-replicate}
-use lib.Seq.{drop-cons, drop-length, drop-nil, take-nil, drop-set-lt, getD-set-same, getD-set-other}
-use Rattle.rules.specs.Shape.{Paren, opening, closing, shape}
+use lib.ListN.{length, drop, getD, set, replicate, length-set, length-replicate}
+use lib.Seq.{drop-cons, drop-length, take-nil, drop-set-lt, getD-set-same, getD-set-other}
+use Rattle.rules.specs.Shape.{Paren, opening, closing}
 use Rattle.rules.specs.Bytes.{bits, bytesOf, bytesFor, recordLength}
-use Rattle.theory.proofs.Tree.{Tree, tip, push, treeOf, spine}
+use Rattle.theory.proofs.Tree.{Tree, push, treeOf, spine}
 use Rattle.theory.proofs.Spine.{rest, written-rest, kept, spine-push, rest-push, rises, Lies, lies-push, kept-is}
 use Rattle.theory.proofs.Ordered.{shape-tree}
 use Rattle.build.specs.declared.pen.Pen.{Pen}
@@ -22,14 +21,14 @@ use Rattle.build.specs.Stack.{entryAt, Stacked, Keeps}
 use Rattle.build.specs.Writes.{Penned, Ready, Writes}
 use Rattle.build.proofs.Writing.{goes-on}
 
--- before the turn of entry i - 1: the tree is that of the entries from i on
+-- the entries from i on had their turns: their tree's left spine is on the stack, and the rest of its parentheses is written. What is still
+-- to be written has room: an opening and a closing for each entry to come, and the openings of the spine.
 pub record Turned (c w₀ o₀ w o : List ℕ) (p : Pen) (h top i : ℕ) : Type 0 where
   pub taken : Taken c w₀ o₀
   pub height : h ≡ spine (treeOf (drop i c))
   pub low : h + i ≤ length c
   pub lies : Lies (entryAt c w) (treeOf (drop i c))
-  pub places : (j : ℕ) → j < h → getD w j 0 < length c
-  pub last : (j : ℕ) → suc j ≡ h → entryAt c w j ≡ top
+  pub stack : Stacked c w h top
   pub penned : Penned (bytesFor (length c)) (drop (recordLength (length c)) o₀) p o (rest (treeOf (drop i c)))
   pub room : 8 * p .left ≡ p .held + (2 * i + h)
   pub work : length w ≡ length w₀
@@ -44,8 +43,7 @@ none-turned {c} {w} {o} taken =
       height = rw drop-length;
       low = omega arith;
       lies = rw drop-length tt;
-      places = λ j l. absurd (omega arith);
-      last = λ j e. absurd (omega arith);
+      stack = record { fits = omega arith; places = λ j l. absurd (omega arith); last = λ j e. absurd (omega arith) };
       penned = rw drop-length (record {
         few = omega arith;
         within = omega arith;
@@ -57,9 +55,6 @@ none-turned {c} {w} {o} taken =
       output = refl;
       beyond = refl;
     }
-
-pub stacked : {c w₀ o₀ w o : List ℕ} {p : Pen} {h top i : ℕ} → Turned c w₀ o₀ w o p h top i → Stacked c w h top
-stacked u = record { fits = omega arith; places = u .places; last = u .last }
 
 pub ready : {c w₀ o₀ w o : List ℕ} {p : Pen} {h top i k : ℕ} → Turned c w₀ o₀ w o p h top i → k ≤ 2 * i + h → Ready p o k
 ready u le =
@@ -81,17 +76,23 @@ unfolding treeOf
 one-turned {c} {w₀} {o₀} {w} {o} {o′} {o″} {p} {q} {q′} {h} {top} {i} {k} u some keeps opened closed =
     let a : ℕ = getD c (i - 1) 0 in
     let t : Tree = treeOf (drop i c) in
+    let w′ : List ℕ = set w k (i - 1) in
     let next : suc (i - 1) ≡ i = omega arith in
     let tree : treeOf (drop (i - 1) c) ≡ push a t = rw (drop-cons c (i - 1) 0 (omega arith)) (ap (λ (n : ℕ). push a (treeOf (drop n c))) next) in
     let is : k ≡ kept a t = kept-is a 0 t (entryAt c w) k (rises (drop i c)) (u .lies) (omega (arith, u .height, keeps .within)) (λ j g l. keeps .popped j g (rw (u .height) l)) (keeps .stays) in
+    let new : getD w′ k 0 ≡ i - 1 = getD-set-same w k (i - 1) 0 (omega arith) in
+    let old : (j : ℕ) → j < k → getD w′ j 0 ≡ getD w j 0 = λ j l. getD-set-other w k j (i - 1) 0 (omega arith) in
     let run : length (replicate (h - k) opening) ≡ h - k = length-replicate (h - k) opening in
     record {
       taken = u .taken;
       height = rw (tree, spine-push, ← is, add-one);
       low = omega (arith, keeps .within, u .low);
-      lies = rw tree (lies-push a t (entryAt c w) (entryAt c (set w k (i - 1))) (u .lies) (λ j l. ap (λ (n : ℕ). getD c n 0) (getD-set-other w k j (i - 1) 0 (omega arith))) (rw (← is, getD-set-same w k (i - 1) 0 (omega arith))));
-      places = below-more _ k (λ j l. rw (getD-set-other w k j (i - 1) 0 (omega arith)) (u .places j (omega (arith, keeps .within)))) (rw (getD-set-same w k (i - 1) 0 (omega arith)) (omega arith));
-      last = λ j e. let k-is : j ≡ k = omega arith in rw (k-is, getD-set-same w k (i - 1) 0 (omega arith));
+      lies = rw tree (lies-push a t (entryAt c w) (entryAt c w′) (u .lies) (λ j l. ap (λ (n : ℕ). getD c n 0) (old j (rw is l))) (rw (← is, new)));
+      stack = record {
+        fits = rw length-set (omega (arith, keeps .within));
+        places = below-more _ k (λ j l. rw (old j l) (u .stack .places j (omega (arith, keeps .within)))) (rw new (omega arith));
+        last = λ j e. let at-k : j ≡ k = omega arith in rw (at-k, new);
+      };
       penned = rw (tree, rest-push, ← is, ← (u .height)) (closed .front (opened .front (u .penned)));
       room = omega (arith, opened .room, closed .room, u .room);
       work = length-set w k (i - 1) ∙ u .work;

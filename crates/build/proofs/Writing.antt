@@ -7,13 +7,13 @@ use native.Mathlib.Numerals.{add-one}
 use native.Mathlib.Omega.{arith}
 use mathlib.Core.List.{List, [], _∷_, _++_, append-assoc}
 use lib.ListN.{length, take, drop, set, replicate, length-set, length-append, length-replicate, replicate-append-replicate}
-use lib.Seq.{take-append-add, drop-append-add, drop-cons, drop-set-lt, getD-set-same, take-nil, drop-nil}
+use lib.Seq.{take-append-add, drop-append-add, drop-cons, drop-set-lt, getD-set-same}
 use lib.Pow.{pow-mono}
 use Rattle.rules.specs.Shape.{Paren, opening, closing}
 use Rattle.rules.specs.Bytes.{bit, bits, bytesOf}
 use Rattle.rules.proofs.Bits.{bits-opened, bits-below}
 use Rattle.build.specs.declared.pen.Pen.{Pen}
-use Rattle.build.specs.Writes.{Penned, Ready, Writes}
+use Rattle.build.specs.Writes.{Ready, Writes}
 
 -- v is the number of the parentheses a in front of those that p holds
 pub record Adds (a : List Paren) (p : Pen) (v : ℕ) : Type 0 where

@@ -2,7 +2,7 @@
 use mathlib.Core.Path.{_∙_}
 use native.Mathlib.Omega.{arith}
 use lib.ListN.{length-replicate}
-use Rattle.build.proofs.Turning.{Turned, none-turned, stacked, ready, ready-after, one-turned, all-turned}
+use Rattle.build.proofs.Turning.{Turned, none-turned, ready, ready-after, one-turned, all-turned}
 use Rattle.build.proofs.body.Statement.{statement}
 use Rattle.build.proofs.body.Tie as tie
 
@@ -34,7 +34,7 @@ shared-slice-read-a : tie.Need-shared-slice-read-a Inv-loop μ-loop
 shared-slice-read-a c = omega arith
 
 keep-requires : tie.Need-keep-requires Inv-loop μ-loop
-keep-requires c κs = stacked (c .before .before .before .loop .inv)
+keep-requires c κs = c .before .before .before .loop .inv .stack
 
 sub-opens : tie.Need-sub-opens Inv-loop μ-loop
 sub-opens c = omega arith

@@ -1,10 +1,9 @@
+-- `build::keep` meets its contract. The invariant: from k on every place's entry is a or more; k falls. Assumes nothing.
 use Prim.Native.Nat.{_-_}
 use native.Mathlib.Omega.{arith}
 use Rattle.build.proofs.Popping.{Pops, none-popped, one-popped, some-stay, none-stay}
 use Rattle.build.proofs.keep.Statement.{statement}
 use Rattle.build.proofs.keep.Tie as tie
-use Rattle.build.proofs.keep.Reads as reads
-use Rattle.build.proofs.keep.Lts as lts
 
 abbrev Inv-loop : tie.InvT-loop
 Inv-loop column work h top a k₀ k = Pops column work h a k
@@ -12,63 +11,48 @@ Inv-loop column work h top a k₀ k = Pops column work h a k
 abbrev μ-loop : tie.MeasureT-loop
 μ-loop column work h top a k₀ k = k
 
--- src/lib.rt:72:9
 returns : tie.Need-returns Inv-loop μ-loop
 returns c = none-stay (none-popped _ _ _ _) (omega arith)
 
--- src/lib.rt:75:9
 returns-2 : tie.Need-returns-2 Inv-loop μ-loop
 returns-2 c = some-stay (none-popped _ _ _ _) (rw (c .before .before .pre .last (c .before .before .args .h - 1) (omega arith)) (c .if2 .taken))
 
--- src/lib.rt:77:17
 sub-k : tie.Need-sub-k Inv-loop μ-loop
 sub-k c = omega arith
 
--- src/lib.rt:78:5
 loop-holds : tie.Need-loop-holds Inv-loop μ-loop
 loop-holds c = one-popped (none-popped _ _ _ _) (rw (c .before .before .pre .last (c .before .before .args .h - 1) (omega arith)) (c .if2 .left))
 
--- src/lib.rt:79:22
 sub-p : tie.Need-sub-p Inv-loop μ-loop
 sub-p c = omega arith
 
--- src/lib.rt:79:17
 mul-p : tie.Need-mul-p Inv-loop μ-loop
 mul-p c = omega arith
 
--- src/lib.rt:79:17
 shared-slice-read-p : tie.Need-shared-slice-read-p Inv-loop μ-loop
 shared-slice-read-p c = omega arith
 
--- src/lib.rt:79:17
 cast-p : tie.Need-cast-p Inv-loop μ-loop
 cast-p c = omega (arith, c .shared-slice-known .given (c .before .before .loop .k - 1))
 
--- src/lib.rt:80:12
 mul-if3 : tie.Need-mul-if3 Inv-loop μ-loop
 mul-if3 c = omega (arith, c .before .before .before .before .before .pre .places (c .before .before .loop .k - 1) (omega arith))
 
--- src/lib.rt:80:12
 shared-slice-read-if3 : tie.Need-shared-slice-read-if3 Inv-loop μ-loop
 shared-slice-read-if3 c = c .before .before .before .before .before .before .pre .places (c .before .before .before .loop .k - 1) (omega arith)
 
--- src/lib.rt:81:13
 returns-3 : tie.Need-returns-3 Inv-loop μ-loop
 returns-3 c = some-stay (c .before .before .before .before .loop .inv) (c .if3 .taken)
 
--- src/lib.rt:83:9
 sub-k-2 : tie.Need-sub-k-2 Inv-loop μ-loop
 sub-k-2 c = omega arith
 
--- src/lib.rt:78:5
 loop-less : tie.Need-loop-less Inv-loop μ-loop
 loop-less c = omega arith
 
--- src/lib.rt:78:5
 loop-again : tie.Need-loop-again Inv-loop μ-loop
 loop-again c = one-popped (c .before .before .before .before .loop .inv) (c .if3 .left)
 
--- src/lib.rt:67:1
 returns-4 : tie.Need-returns-4 Inv-loop μ-loop
 returns-4 c = none-stay (c .before .loop .inv) (c .loop-test .left)
 

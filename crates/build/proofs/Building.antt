@@ -11,7 +11,8 @@ use Rattle.rules.specs.Order.{buildSays, outputAfter, workAfter}
 use Rattle.answers.specs.declared.Refusal.{Refusal}
 use Rattle.answers.specs.declared.Answer.the-variants.{Is, Refused}
 use Rattle.answers.specs.Said.{number}
-use Rattle.build.specs.Builds.{Builds, Taken, Bodied}
+use Rattle.build.specs.Builds.{Builds}
+use Rattle.build.specs.Body.{Taken, Bodied}
 
 pub refused : (c w o : List ℕ) (x : Refusal) → buildSays c (length w) (length o) ≡ refusal (number x) → Builds c w o (Refused x) w o
 unfolding outputAfter workAfter

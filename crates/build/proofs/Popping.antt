@@ -27,6 +27,7 @@ one-popped {c} {w} {h} {a} {k} u e =
     by j g l true t = let last : j ≡ k - 1 = omega (arith, ltb-true j k t) in rw last e
     by j g l false t = u .popped j (ltb-false j k t) l
 
+-- where it ends: at a smaller entry, or with no place left
 pub some-stay : {c w : List ℕ} {h a k : ℕ} → Pops c w h a k → entryAt c w (k - 1) < a → Keeps c w h a k
 some-stay {c} {w} {h} {a} {k} u e =
     record {

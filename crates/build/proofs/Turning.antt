@@ -16,7 +16,7 @@ use Rattle.theory.proofs.Tree.{Tree, push, treeOf, spine}
 use Rattle.theory.proofs.Spine.{rest, written-rest, kept, spine-push, rest-push, rises, Lies, lies-push, kept-is}
 use Rattle.theory.proofs.Ordered.{shape-tree}
 use Rattle.build.specs.declared.pen.Pen.{Pen}
-use Rattle.build.specs.Builds.{Taken, Bodied}
+use Rattle.build.specs.Body.{Taken, Bodied}
 use Rattle.build.specs.Stack.{entryAt, Stacked, Keeps}
 use Rattle.build.specs.Writes.{Penned, Ready, Writes}
 use Rattle.build.proofs.Writing.{goes-on}
@@ -56,6 +56,7 @@ none-turned {c} {w} {o} taken =
       beyond = refl;
     }
 
+-- what is still to be written has room, at the turn's beginning and within it
 pub ready : {c w₀ o₀ w o : List ℕ} {p : Pen} {h top i k : ℕ} → Turned c w₀ o₀ w o p h top i → k ≤ 2 * i + h → Ready p o k
 ready u le =
     record {
@@ -70,6 +71,7 @@ ready u le =
 pub ready-after : {c w₀ o₀ w o o′ : List ℕ} {a : List Paren} {p q : Pen} {h top i k : ℕ} → Turned c w₀ o₀ w o p h top i → Writes a p o q o′ → length a + k ≤ 2 * i + h → Ready q o′ k
 ready-after {a = a} {k = k} u w le = goes-on (ready {k = length a + k} u le) w (le-refl (length a + k))
 
+-- a turn: the tree gets one more entry
 pub one-turned : {c w₀ o₀ w o o′ o″ : List ℕ} {p q q′ : Pen} {h top i k : ℕ} → Turned c w₀ o₀ w o p h top i → 0 < i → Keeps c w h (getD c (i - 1) 0) k
     → Writes (replicate (h - k) opening) p o q o′ → Writes (closing ∷ []) q o′ q′ o″ → Turned c w₀ o₀ (set w k (i - 1)) o″ q′ (k + 1) (getD c (i - 1) 0) (i - 1)
 unfolding treeOf
@@ -100,6 +102,7 @@ one-turned {c} {w₀} {o₀} {w} {o} {o′} {o″} {p} {q} {q′} {h} {top} {i} 
       beyond = drop-set-lt (length c) w k (i - 1) (omega (arith, keeps .within, u .low)) ∙ u .beyond;
     }
 
+-- the spine's openings make the parentheses whole
 pub all-turned : {c w₀ o₀ w o o′ : List ℕ} {p q : Pen} {h top i : ℕ} → Turned c w₀ o₀ w o p h top i → i ≤ 0 → Writes (replicate h opening) p o q o′ → Bodied c w₀ o₀ w o′
 all-turned {c} {w₀} {o₀} {w} {o} {o′} {p} {q} {h} {top} {i} v le opened =
     let u : Turned c w₀ o₀ w o p h top 0 = rw (le-zero le) at v in

@@ -9,11 +9,13 @@ ghost use mathlib.Core.Path.{_≡_};
 ghost use mathlib.Core.List.{_∷_, _++_};
 ghost use lib.ListN.{length, drop, replicate};
 ghost use Rattle.rules.specs.Bytes.{most};
-ghost use Rattle.build.specs.Builds.{Builds, Taken, Bodied};
+ghost use Rattle.build.specs.Builds.{Builds};
+ghost use Rattle.build.specs.Body.{Taken, Bodied};
 ghost use Rattle.build.specs.Stack.{Stacked, Keeps};
 
-// The column's record at the start of the output, and its length; or the first refusal of document 01's
-// order. The first n work numbers end at 0. It takes a number of steps in proportion to n.
+// The column's record at the start of the output, answered by its length; or the first refusal in
+// document 01's order. Equal entries: the leftmost counts as the smallest. Each entry is pushed once and
+// popped at most once, so the steps are in proportion to n.
 pub fn build(column: &[u32], work: &mut [u16], out: &mut [u8]) -> Answer
     ensures { λ r. ⌜ Builds (now (column .entry)) (now (work .entry)) (now (out .entry)) r (now (work .exit)) (now (out .exit)) ⌝ }
 {
@@ -34,8 +36,9 @@ pub fn build(column: &[u32], work: &mut [u16], out: &mut [u8]) -> Answer
     Answer::Is(size)
 }
 
-// The parentheses, from the last to the first. The work's first numbers are a stack of places: those that an
-// entry further left can still stand below, the smallest entry's first.
+// The parentheses, from the last to the first, an entry a turn from the right. The first h work numbers are
+// the left spine of the tree of the entries passed: the places whose openings are still owed, the smallest
+// entry's first, so their entries rise. The unused bits of the last byte are held as closings.
 fn body(column: &[u32], work: &mut [u16], out: &mut [u8])
     requires { ⌜ Taken (now column) (now work) (now out) ⌝ }
     ensures { λ _. ⌜ Bodied (now (column .entry)) (now (work .entry)) (now (out .entry)) (now (work .exit)) (now (out .exit)) ⌝ }

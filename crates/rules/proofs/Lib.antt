@@ -8,3 +8,4 @@ pub mod ClosingPlace
 pub mod Between
 pub mod Bytes
 pub mod Same
+pub mod Bits

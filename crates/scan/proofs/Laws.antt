@@ -1,15 +1,15 @@
 -- Laws of the scan: one stretch after another, and how far a stretch can carry a state.
 -- Assumes nothing.
-use mathlib.Core.Path.{_≡_, refl}
-use Prim.Native.Nat.{ℕ, suc, pred, _+_, _*_, _≤_, _<_}
+use mathlib.Core.Path.{_≡_, refl, ap, _∙_}
+use Prim.Native.Nat.{ℕ, zero, suc, pred, _+_, _*_, _≤_, _<_}
 use native.Mathlib.Nat.{add-zero, add-suc, suc-add, zero-add, le-refl, le-trans}
 use native.Mathlib.Omega.{arith}
 use mathlib.Core.Bool.{Bool, true, false, cond}
 use mathlib.Core.List.{List, [], _∷_, _++_, append-nil}
-use borrow.Author.Tests.{ltb-true}
+use borrow.Author.Tests.{ltb-true, ltb-false, le-ltb}
 use lib.Dec.{ltb}
 use native.Mathlib.Numerals.{add-one}
-use lib.ListN.{length, take, getD}
+use lib.ListN.{length, take, getD, replicate}
 use lib.Seq.{take-all, take-suc, length-take-le}
 use Rattle.rules.specs.Bytes.{lowBits, allBits}
 use Rattle.rules.proofs.Bytes.{allBits-length, allBits-append}
@@ -55,6 +55,48 @@ ready-fewer st j k h ready =
     let r = ready .room in
     let u = ready .high in
     record { room = omega arith; high = omega arith; bound = ready .bound }
+
+-- the smallest never rises
+pub scan-below : (st : Scan) (p : ℕ) (s : List Paren) → scanOf st p s .smallest ≤ st .smallest
+unfolding scanOf stepOf
+scan-below st p [] = le-refl _
+scan-below st p (opening ∷ s) =
+    le-trans (scan-below (stepOf st p opening) (suc p) s) (seen-below st p (suc (st .excess)))
+scan-below st p (closing ∷ s) =
+    le-trans (scan-below (stepOf st p closing) (suc p) s) (seen-below st p (pred (st .excess)))
+
+-- a parenthesis that does not go below the smallest moves the excess and nothing else
+pub step-opening : (e m q p : ℕ) → m ≤ suc e
+    → stepOf (record { excess = e; smallest = m; place = q }) p opening ≡ record { excess = suc e; smallest = m; place = q }
+unfolding stepOf
+step-opening e m q p h = rw (le-ltb (suc e) m h)
+
+pub step-closing : (e m q p : ℕ) → m ≤ e
+    → stepOf (record { excess = suc e; smallest = m; place = q }) p closing ≡ record { excess = e; smallest = m; place = q }
+unfolding stepOf
+step-closing e m q p h = rw (le-ltb e m h)
+
+-- openings alone, behind a smallest that is not above the excess
+pub scan-openings : (e m q p u : ℕ) → m ≤ e
+    → scanOf (record { excess = e; smallest = m; place = q }) p (replicate u opening) ≡ record { excess = e + u; smallest = m; place = q }
+unfolding scanOf
+scan-openings e m q p zero h = rw add-zero
+scan-openings e m q p (suc u) h =
+    ap (λ (st : Scan). scanOf st (suc p) (replicate u opening)) (step-opening e m q p (omega arith))
+    ∙ rw (add-suc e u, ← suc-add e u) (scan-openings (suc e) m q (suc p) u (omega arith))
+
+seen-least : (st : Scan) (p e : ℕ) → seen st p e .smallest ≤ e
+seen-least st p e = by (ltb e (st .smallest)) refl
+  where
+    by : (t : Bool) → ltb e (st .smallest) ≡ t → cond (ltb e (st .smallest)) e (st .smallest) ≤ e
+    by true h = rw h (le-refl _)
+    by false h = rw h (ltb-false e (st .smallest) h)
+
+pub scan-least : (st : Scan) (p : ℕ) (s : List Paren) → st .smallest ≤ st .excess → scanOf st p s .smallest ≤ scanOf st p s .excess
+unfolding scanOf stepOf
+scan-least st p [] h = h
+scan-least st p (opening ∷ s) h = scan-least (stepOf st p opening) (suc p) s (seen-least st p (suc (st .excess)))
+scan-least st p (closing ∷ s) h = scan-least (stepOf st p closing) (suc p) s (seen-least st p (pred (st .excess)))
 
 -- ---- byte by byte
 

@@ -8,3 +8,6 @@ pub mod ClosingPlace
 pub mod Between
 pub mod Bytes
 pub mod Same
+pub mod Bits
+pub mod Checked
+pub mod Record

@@ -1,7 +1,6 @@
 -- Two answers of which the same is said are equal: no two refusals share a number.
 -- Assumes nothing.
 use mathlib.Core.Path.{_≡_, refl, sym, ap, _∙_}
-use Prim.Native.Nat.{ℕ}
 use mathlib.Core.List.{List, [], _∷_}
 use lib.ListN.{getD}
 use Rattle.rules.specs.Refusal.{Outcome, answer, refusal}
@@ -9,7 +8,7 @@ use Rattle.answers.specs.declared.Refusal.{Refusal}
 use Rattle.answers.specs.declared.Refusal.the-variants.{TooManyEntries, OutputShort, WorkShort, Unmarked, CutShort, UnusedBit, Unbalanced, OutOfRange, Foreign, NoRecord, BytesAfter, DrawerLong, UsedWrong, DrawerFull}
 use Rattle.answers.specs.declared.Answer.{Answer}
 use Rattle.answers.specs.declared.Answer.the-variants.{Is, Refused}
-use Rattle.answers.specs.Said.{number, said}
+use Rattle.answers.specs.Said.{said}
 
 -- the refusals in the order of their numbers; nothing has number 0
 table : List Refusal

@@ -1,13 +1,12 @@
 -- Document 01, "Order of checks": what each entry point says and leaves behind, for every input. A check that fails ends the row.
-use Prim.Native.Nat.{ℕ, _+_, _*_}
-use mathlib.Core.Bool.{Bool, cond}
+use Prim.Native.Nat.{ℕ}
+use mathlib.Core.Bool.{cond}
 use mathlib.Core.List.{List, _++_}
-use lib.Dec.{ltb, leb, eqb}
+use lib.Dec.{ltb, eqb}
 use lib.ListN.{length, drop, getD, replicate}
-use Rattle.rules.specs.Shape.{shape}
 use Rattle.rules.specs.Excess.{openings, balanced, entryBetween}
 use Rattle.rules.specs.StandIn.{standIn}
-use Rattle.rules.specs.Bytes.{most, bytesFor, recordLength, columnRecord, entries, parens, unused}
+use Rattle.rules.specs.Bytes.{most, recordLength, columnRecord, entries, parens, unused}
 use Rattle.rules.specs.Refusal.{Outcome, answer, refusal, unlessRefused, afterwards}
 
 -- Frame: 5 for fewer than 4 bytes, 4, 1, 5 for the rest. It says n.

@@ -1,6 +1,6 @@
 -- Document 01, "Forms by place": a scan state by value (excess, smallest, place), handed back after each byte. What it holds is said one
 -- parenthesis at a time; that a table is behind it shows nowhere.
-use Prim.Native.Nat.{ℕ, suc, pred, _+_, _≤_, _<_}
+use Prim.Native.Nat.{ℕ, suc, pred, _+_, _≤_}
 use mathlib.Core.Bool.{cond}
 use mathlib.Core.List.{List, [], _∷_}
 use lib.Dec.{ltb}

@@ -1,0 +1,4 @@
+pub mod Balance
+pub mod Last
+pub mod Through
+pub mod Says

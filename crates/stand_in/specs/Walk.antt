@@ -1,0 +1,29 @@
+-- A walk along the parentheses, which writes a column as it goes. Every excess is stored at the next entry's place; what an opening stores,
+-- the closing that follows it overwrites.
+use Prim.Native.Nat.{ℕ, suc, pred, _+_, _≤_}
+use mathlib.Core.List.{List, [], _∷_, _++_}
+use lib.ListN.{length, set}
+use Rattle.rules.specs.Shape.{Paren, opening, closing}
+use Rattle.rules.specs.Excess.{closings}
+use Rattle.rules.specs.Bytes.{most}
+use Rattle.rules.proofs.Excess.{Kept}
+use Rattle.stand_in.specs.declared.Walk.{Walk}
+
+unfoldable pub after : Walk → Paren → Walk
+after w opening = record { excess = suc (w .excess); closed = w .closed }
+after w closing = record { excess = pred (w .excess); closed = suc (w .closed) }
+
+unfoldable pub walked : Walk → List Paren → Walk
+walked w [] = w
+walked w (p ∷ s) = walked (after w p) s
+
+unfoldable pub written : Walk → List Paren → List ℕ → List ℕ
+written w [] col = col
+written w (p ∷ s) col = written (after w p) s (set col (w .closed) (after w p .excess))
+
+-- the walk can go along s: with what follows it the excess comes back to 0, never below, and there is a number for each closing
+pub record Ready (w : Walk) (s : List Paren) (col : List ℕ) : Type 0 where
+  pub rest : List Paren
+  pub kept : Kept (w .excess) (s ++ rest)
+  pub few : w .closed + closings (s ++ rest) ≤ most
+  pub room : w .closed + closings (s ++ rest) ≤ length col

@@ -106,15 +106,20 @@ all-gone (suc k) b l g = absurd (omega arith)
 
 -- ---- some parentheses after others
 
-walked-append : (w : Walk) (s t : List Paren) → walked w (s ++ t) ≡ walked (walked w s) t
-unfolding walked
-walked-append w [] t = refl
-walked-append w (p ∷ s) t = walked-append (after w p) s t
+pub ready-part : {w : Walk} {col : List ℕ} (s t : List Paren) → Ready w (s ++ t) col → Ready w s col
+ready-part s t r =
+    record {
+      rest = t ++ r .rest;
+      kept = rw (← (append-assoc s t (r .rest))) (r .kept);
+      few = rw (← (append-assoc s t (r .rest))) (r .few);
+      room = rw (← (append-assoc s t (r .rest))) (r .room);
+    }
 
-written-append : (w : Walk) (s t : List Paren) (col : List ℕ) → written w (s ++ t) col ≡ written (walked w s) t (written w s col)
+pub some-gone : {w₀ w : Walk} {s₀ : List Paren} {col₀ col : List ℕ} (s t : List Paren) → Going w₀ s₀ col₀ w (s ++ t) col
+    → Going w₀ s₀ col₀ (walked w s) t (written w s col)
 unfolding walked written
-written-append w [] t col = refl
-written-append w (p ∷ s) t col = written-append (after w p) s t (set col (w .closed) (after w p .excess))
+some-gone [] t g = g
+some-gone (p ∷ s) t g = some-gone s t (one-gone g)
 
 -- ---- the column at the end
 

@@ -1,74 +1,78 @@
+-- `stand_in::fill` meets its contract. The loop's invariant: the first i bytes are done.
+-- Assumes nothing.
+use borrow.Author.Needs.{needs}
+use mathlib.Core.Path.{_∙_}
+use Prim.Native.Nat.{_-_}
+use native.Mathlib.Omega.{arith}
+use Rattle.rules.proofs.Checked.{says-checked}
+use Rattle.stand_in.proofs.Filling.{Filling, none-filled, byte-ready, byte-filled, none-left, last-ready, last-filled}
 use Rattle.stand_in.proofs.fill.Statement.{statement}
 use Rattle.stand_in.proofs.fill.Tie as tie
-use Rattle.stand_in.proofs.fill.Reads as reads
-use Rattle.stand_in.proofs.fill.Lts as lts
-use Rattle.stand_in.proofs.Walk.bits.Reads as bits-reads
 
 abbrev Inv-loop : tie.InvT-loop
-Inv-loop bytes n column₀ walk₀ whole i₀ column walk i = ?
+Inv-loop bytes n column₀ walk₀ whole i₀ column walk i = Filling bytes n column₀ walk column i
 
 abbrev μ-loop : tie.MeasureT-loop
-μ-loop bytes n column₀ walk₀ whole i₀ column walk i = ?
+μ-loop bytes n column₀ walk₀ whole i₀ column walk i = whole - i
 
--- src/lib.rt:71:5
 loop-holds : tie.Need-loop-holds Inv-loop μ-loop
-loop-holds c = ?
+loop-holds c = none-filled (c .before .before .pre)
 
--- src/lib.rt:72:40
 add-bits : tie.Need-add-bits Inv-loop μ-loop
-add-bits c = ?
+add-bits c = omega arith
 
--- src/lib.rt:72:34
 shared-slice-read-bits : tie.Need-shared-slice-read-bits Inv-loop μ-loop
-shared-slice-read-bits c = ?
+shared-slice-read-bits c =
+    let start = c .before .before .before .before .before .before in
+    omega (arith, says-checked (start .args .bytes .now) (start .args .n) (start .pre .checks))
 
--- src/lib.rt:72:9
 bits-requires : tie.Need-bits-requires Inv-loop μ-loop
-bits-requires c κs = ?
+bits-requires c κs =
+    let loop = c .before .before .before in
+    byte-ready (loop .before .before .before .pre) (loop .loop .inv) (c .before .before .loop-test .taken)
 
--- src/lib.rt:73:9
 add-i : tie.Need-add-i Inv-loop μ-loop
-add-i c = ?
+add-i c = omega arith
 
--- src/lib.rt:71:5
 loop-less : tie.Need-loop-less Inv-loop μ-loop
-loop-less c = ?
+loop-less c = omega arith
 
--- src/lib.rt:71:5
 loop-again : tie.Need-loop-again Inv-loop μ-loop
-loop-again c = ?
+loop-again c =
+    let test = c .before .before .before .before .before in
+    byte-filled (test .before .before .before .before .pre) (test .before .loop .inv) (test .loop-test .taken) (c .before .before .bits .ensures .0) (c .before .before .bits .ensures .1)
 
--- src/lib.rt:76:33
 add-bits-2 : tie.Need-add-bits-2 Inv-loop μ-loop
-add-bits-2 c = ?
+add-bits-2 c = omega arith
 
--- src/lib.rt:76:27
 shared-slice-read-bits-2 : tie.Need-shared-slice-read-bits-2 Inv-loop μ-loop
-shared-slice-read-bits-2 c = ?
+shared-slice-read-bits-2 c =
+    let start = c .before .before .before .before .before .before .before in
+    omega (arith, says-checked (start .args .bytes .now) (start .args .n) (start .pre .checks))
 
--- src/lib.rt:76:45
 mul-bits : tie.Need-mul-bits Inv-loop μ-loop
-mul-bits c = ?
+mul-bits c = omega arith
 
--- src/lib.rt:76:9
 bits-requires-2 : tie.Need-bits-requires-2 Inv-loop μ-loop
-bits-requires-2 c κs = ?
+bits-requires-2 c κs =
+    let test = c .before .before .before in
+    last-ready (test .before .before .before .before .pre) (test .before .loop .inv) (test .loop-test .left) (c .before .before .if1 .taken)
 
--- src/lib.rt:61:1
 same-length : tie.Need-same-length Inv-loop μ-loop
-same-length c = ?
+same-length c = c .before .before .bits2 .kept .1 .0 ∙ c .before .before .before .before .before .before .before .loop .inv .going .same
 
--- src/lib.rt:61:1
 returns : tie.Need-returns Inv-loop μ-loop
-returns c = ?
+returns c =
+    let test = c .before .before .before .before .before .before in
+    last-filled (test .before .before .before .before .pre) (test .before .loop .inv) (test .loop-test .left) (c .before .before .before .before .before .if1 .taken) (c .before .before .bits2 .ensures .1)
 
--- src/lib.rt:61:1
 same-length-2 : tie.Need-same-length-2 Inv-loop μ-loop
-same-length-2 c = ?
+same-length-2 c = c .before .before .loop .inv .going .same
 
--- src/lib.rt:61:1
 returns-2 : tie.Need-returns-2 Inv-loop μ-loop
-returns-2 c = ?
+returns-2 c =
+    let test = c .before in
+    none-left (test .before .before .before .before .pre) (test .before .loop .inv) (test .loop-test .left) (c .if1 .left)
 
 pub fill-spec : {M : Type 1} → statement M
 fill-spec =

@@ -1,14 +1,14 @@
 -- The walk along a record's bytes, whole ones and then the last; what it has written is the stand-in.
 -- Assumes nothing.
-use mathlib.Core.Path.{_≡_, refl, ap, sym, _∙_}
+use mathlib.Core.Path.{_≡_, refl, _∙_}
 use Prim.Native.Nat.{ℕ, zero, suc, _+_, _-_, _*_, _/_, _%_, _≤_, _<_}
 use native.Mathlib.Nat.{zero-add}
 use native.Mathlib.Omega.{arith}
-use mathlib.Core.List.{List, [], _∷_, _++_, append-nil}
+use mathlib.Core.List.{List, [], _++_, append-nil}
 use lib.ListN.{length, take, drop, getD}
 use lib.Seq.{drop-cons, take-append-le, take-append-add}
 use Rattle.rules.specs.Shape.{Paren}
-use Rattle.rules.specs.Excess.{closings, Balanced, balanced}
+use Rattle.rules.specs.Excess.{closings, balanced}
 use Rattle.rules.specs.StandIn.{standIn}
 use Rattle.rules.specs.Bytes.{lowBits, allBits, parens}
 use Rattle.rules.proofs.Excess.{Kept, kept-is, is-balanced, counts-length}

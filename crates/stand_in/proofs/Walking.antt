@@ -1,15 +1,15 @@
 -- The walk one parenthesis at a time, as the code takes it; and the column that it has written at the end.
 -- Assumes nothing.
-use mathlib.Core.Path.{_≡_, refl, ap, sym, subst, _∙_}
+use mathlib.Core.Path.{_≡_, refl, sym, subst, _∙_}
 use Prim.Native.Nat.{ℕ, zero, suc, pred, _+_, _-_, _*_, _/_, _%_, _≤_, _<_}
-use native.Mathlib.Nat.{add-zero, suc-add, add-suc, le-refl}
+use native.Mathlib.Nat.{add-zero, le-refl}
 use native.Mathlib.Omega.{arith}
 use mathlib.Core.List.{List, [], _∷_, _++_, append-assoc, append-nil}
 use lib.ListN.{length, take, drop, set, length-set, take-append-drop}
 use lib.Seq.{take-set-le, drop-set-lt, take-suc-set, append-snoc}
 use Rattle.rules.specs.Shape.{Paren, opening, closing}
 use Rattle.rules.specs.Excess.{openings, closings}
-use Rattle.rules.specs.Bytes.{most, bit, paren, lowBits}
+use Rattle.rules.specs.Bytes.{most, paren, lowBits}
 use Rattle.rules.proofs.Excess.{Kept, kept-opening, kept-closing, kept-not-closed}
 use Rattle.rules.proofs.StandIn.{standInFrom}
 use Rattle.stand_in.specs.declared.Walk.{Walk}

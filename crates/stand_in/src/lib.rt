@@ -1,5 +1,6 @@
 // Stand-in: from any record that passes the check, a column of which it is the record.
-use answers::{Answer, Refusal};
+use answers::Answer;
+use answers::Refusal;
 ghost use mathlib.Core.Path.{_≡_};
 ghost use mathlib.Core.List.{_++_};
 ghost use lib.ListN.{drop};
@@ -50,10 +51,7 @@ impl Walk {
             rest = rest / 2;
             left -= 1;
         }
-        Walk {
-            excess,
-            closed,
-        }
+        Walk { excess, closed }
     }
 }
 

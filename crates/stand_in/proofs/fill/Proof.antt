@@ -1,6 +1,5 @@
 -- `stand_in::fill` meets its contract. The loop's invariant: the first i bytes are done.
 -- Assumes nothing.
-use borrow.Author.Needs.{needs}
 use mathlib.Core.Path.{_∙_}
 use Prim.Native.Nat.{_-_}
 use native.Mathlib.Omega.{arith}

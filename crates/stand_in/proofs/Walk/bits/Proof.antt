@@ -2,7 +2,7 @@
 -- Assumes nothing.
 use native.Mathlib.Omega.{arith}
 use Rattle.rules.specs.Bytes.{lowBits}
-use Rattle.stand_in.proofs.Walking.{Going, Next, none-gone, next, bit-gone, all-gone}
+use Rattle.stand_in.proofs.Walking.{Going, none-gone, next, bit-gone, all-gone}
 use Rattle.stand_in.proofs.Walk.bits.Statement.{statement}
 use Rattle.stand_in.proofs.Walk.bits.Tie as tie
 

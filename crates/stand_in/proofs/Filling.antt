@@ -4,14 +4,15 @@ use mathlib.Core.Path.{_≡_, refl, _∙_}
 use Prim.Native.Nat.{ℕ, zero, suc, _+_, _-_, _*_, _/_, _%_, _≤_, _<_}
 use native.Mathlib.Nat.{zero-add}
 use native.Mathlib.Omega.{arith}
+use mathlib.Core.Bool.{true}
 use mathlib.Core.List.{List, [], _++_, append-nil}
 use lib.ListN.{length, take, drop, getD}
 use lib.Seq.{drop-cons, take-append-le, take-append-add}
 use Rattle.rules.specs.Shape.{Paren}
-use Rattle.rules.specs.Excess.{closings, balanced}
+use Rattle.rules.specs.Excess.{closings, balancedFrom, balanced}
 use Rattle.rules.specs.StandIn.{standIn}
 use Rattle.rules.specs.Bytes.{lowBits, allBits, parens}
-use Rattle.rules.proofs.Excess.{Kept, kept-is, is-balanced, counts-length}
+use Rattle.rules.proofs.Excess.{is-balanced, counts-length}
 use Rattle.rules.proofs.StandIn.{stand-in-walk}
 use Rattle.rules.proofs.Bytes.{lowBits-length}
 use Rattle.rules.proofs.Checked.{Checked, says-checked, parens-length}
@@ -69,16 +70,16 @@ module _ {r : List ℕ} {n : ℕ} {col₀ : List ℕ} (taken : Taken r n col₀)
   closed =
       omega (arith, checked .balance, counts-length (parens n r), parens-length r n (checked .framed .long))
 
-  kept : Kept 0 (parens n r)
+  balance : balancedFrom 0 (parens n r) ≡ true
   unfolding balanced
-  kept = kept-is 0 (parens n r) (is-balanced (parens n r) (checked .balance))
+  balance = is-balanced (parens n r) (checked .balance)
 
   pub none-filled : Filling r n col₀ first col₀ 0
   unfolding left parens
   none-filled =
       let all : 2 * n - 8 * 0 ≡ 2 * n = omega arith in
       let ready : Ready first (parens n r) col₀ =
-      record { rest = []; kept = rw append-nil kept; few = rw append-nil (omega (arith, closed, checked)); room = rw append-nil (omega (arith, closed, taken)) } in
+      record { rest = []; balance = rw append-nil balance; few = rw append-nil (omega (arith, closed, checked)); room = rw append-nil (omega (arith, closed, taken)) } in
       record { whole = omega arith; going = rw all (none-gone ready) }
 
   -- one more whole byte
@@ -97,7 +98,7 @@ module _ {r : List ℕ} {n : ℕ} {col₀ : List ℕ} (taken : Taken r n col₀)
   filled : {w : Walk} {col : List ℕ} → Going first (parens n r) col₀ w [] col → col ≡ standIn (parens n r) ++ drop n col₀
   unfolding written
   filled g =
-      rw (zero-add, closed, ← (stand-in-walk (parens n r) (checked .balance))) at (g .column ∙ written-all first (parens n r) col₀ kept (omega (arith, closed, taken)))
+      rw (zero-add, closed, ← (stand-in-walk (parens n r) (checked .balance))) at (g .column ∙ written-all first (parens n r) col₀ balance (omega (arith, closed, taken)))
 
   pub none-left : {w : Walk} {col : List ℕ} {i : ℕ} → Filling r n col₀ w col i → n / 4 ≤ i → n % 4 ≤ 0 → col ≡ standIn (parens n r) ++ drop n col₀
   none-left {i} f l z = filled (rw (left-none n r i (omega arith)) at (f .going))

@@ -4,27 +4,28 @@ use mathlib.Core.Path.{_≡_, refl, sym, subst, _∙_}
 use Prim.Native.Nat.{ℕ, zero, suc, pred, _+_, _-_, _*_, _/_, _%_, _≤_, _<_}
 use native.Mathlib.Nat.{add-zero, le-refl}
 use native.Mathlib.Omega.{arith}
+use mathlib.Core.Bool.{true, false≢true}
 use mathlib.Core.List.{List, [], _∷_, _++_, append-assoc, append-nil}
 use lib.ListN.{length, take, drop, set, length-set, take-append-drop}
 use lib.Seq.{take-set-le, drop-set-lt, take-suc-set, append-snoc}
 use Rattle.rules.specs.Shape.{Paren, opening, closing}
-use Rattle.rules.specs.Excess.{openings, closings}
+use Rattle.rules.specs.Excess.{openings, closings, balancedFrom}
 use Rattle.rules.specs.Bytes.{most, paren, lowBits}
-use Rattle.rules.proofs.Excess.{Kept, kept-opening, kept-closing, kept-not-closed}
+use Rattle.rules.proofs.Excess.{kept-is}
 use Rattle.rules.proofs.StandIn.{standInFrom}
 use Rattle.stand_in.specs.declared.Walk.{Walk}
 use Rattle.stand_in.specs.Walk.{after, walked, written, Ready}
 
 -- ---- one parenthesis
 
-kept-after : (w : Walk) (p : Paren) (s : List Paren) → Kept (w .excess) (p ∷ s) → Kept (after w p .excess) s
-unfolding after
-kept-after w opening s k = kept-opening (w .excess) s k
-kept-after w closing s k = by (w .excess) k
+balance-after : (w : Walk) (p : Paren) (s : List Paren) → balancedFrom (w .excess) (p ∷ s) ≡ true → balancedFrom (after w p .excess) s ≡ true
+unfolding after balancedFrom
+balance-after w opening s t = t
+balance-after w closing s t = by (w .excess) t
   where
-    by : (e : ℕ) → Kept e (closing ∷ s) → Kept (pred e) s
-    by zero k = absurd (kept-not-closed s k)
-    by (suc e) k = kept-closing e s k
+    by : (e : ℕ) → balancedFrom e (closing ∷ s) ≡ true → balancedFrom (pred e) s ≡ true
+    by zero t = absurd (false≢true t)
+    by (suc e) t = t
 
 closed-after : (w : Walk) (p : Paren) (s : List Paren) → after w p .closed + closings s ≡ w .closed + closings (p ∷ s)
 unfolding after closings
@@ -35,7 +36,7 @@ ready-after : {w : Walk} {p : Paren} {s : List Paren} {col : List ℕ} → Ready
 ready-after {w} {p} {s} {col} r =
     record {
       rest = r .rest;
-      kept = kept-after w p (s ++ r .rest) (r .kept);
+      balance = balance-after w p (s ++ r .rest) (r .balance);
       few = rw closed-after (r .few);
       room = rw (closed-after, length-set) (r .room);
     }
@@ -50,7 +51,7 @@ pub record Going (w₀ : Walk) (s₀ : List Paren) (col₀ : List ℕ) (w : Walk
 pub none-gone : {w : Walk} {s : List Paren} {col : List ℕ} → Ready w s col → Going w s col w s col
 none-gone r = record { ready = r; same = refl; walk = refl; column = refl }
 
-pub one-gone : {w₀ w : Walk} {s₀ s : List Paren} {col₀ col : List ℕ} {p : Paren} → Going w₀ s₀ col₀ w (p ∷ s) col
+one-gone : {w₀ w : Walk} {s₀ s : List Paren} {col₀ col : List ℕ} {p : Paren} → Going w₀ s₀ col₀ w (p ∷ s) col
     → Going w₀ s₀ col₀ (after w p) s (set col (w .closed) (after w p .excess))
 unfolding walked written
 one-gone {w} {col} {p} g =
@@ -64,17 +65,19 @@ pub record Next (w : Walk) (m : ℕ) (col : List ℕ) : Type 0 where
   pub small : w .excess ≤ most
   pub above : 1 ≤ w .excess + 2 * m
 
-next-is : {w : Walk} (m : ℕ) {s : List Paren} {col : List ℕ} → Ready w (paren m ∷ s) col → Next w m col
+next-is : (w : Walk) (m : ℕ) {s : List Paren} {col : List ℕ} → Ready w (paren m ∷ s) col → Next w m col
 unfolding openings closings paren
-next-is zero r =
-    record { within = omega (arith, r .room); small = omega (arith, r .kept .last, r .few); above = omega (arith, r .kept .above 1) }
-next-is (suc m) r =
-    record { within = omega (arith, r .kept .last, r .room); small = omega (arith, r .kept .last, r .few); above = omega arith }
+next-is w zero {s} r =
+    let k = kept-is (w .excess) (closing ∷ s ++ r .rest) (r .balance) in
+    record { within = omega (arith, r .room); small = omega (arith, k .last, r .few); above = omega (arith, k .above 1) }
+next-is w (suc m) {s} r =
+    let k = kept-is (w .excess) (opening ∷ s ++ r .rest) (r .balance) in
+    record { within = omega (arith, k .last, r .room); small = omega (arith, k .last, r .few); above = omega arith }
 
 pub next : (k b : ℕ) {w : Walk} {col : List ℕ} → 0 < k → Ready w (lowBits k b) col → Next w (b % 2) col
 unfolding lowBits
 next zero b l r = absurd (omega arith)
-next (suc k) b l r = next-is (b % 2) r
+next (suc k) b {w} l r = next-is w (b % 2) r
 
 abbrev bitWalk : Walk → ℕ → Walk
 bitWalk w m = record { excess = w .excess + 2 * m - 1; closed = w .closed + 1 - m }
@@ -110,7 +113,7 @@ pub ready-part : {w : Walk} {col : List ℕ} (s t : List Paren) → Ready w (s +
 ready-part s t r =
     record {
       rest = t ++ r .rest;
-      kept = rw (← (append-assoc s t (r .rest))) (r .kept);
+      balance = rw (← (append-assoc s t (r .rest))) (r .balance);
       few = rw (← (append-assoc s t (r .rest))) (r .few);
       room = rw (← (append-assoc s t (r .rest))) (r .room);
     }
@@ -124,17 +127,17 @@ some-gone (p ∷ s) t g = some-gone s t (one-gone g)
 -- ---- the column at the end
 
 -- the stand-in's numbers from the walk's place on, and no others: the last parenthesis closes
-pub written-all : (w : Walk) (s : List Paren) (col : List ℕ) → Kept (w .excess) s → w .closed + closings s ≤ length col
+pub written-all : (w : Walk) (s : List Paren) (col : List ℕ) → balancedFrom (w .excess) s ≡ true → w .closed + closings s ≤ length col
     → written w s col ≡ take (w .closed) col ++ standInFrom (w .excess) s ++ drop (w .closed + closings s) col
-unfolding walked written after standInFrom openings closings
-written-all w [] col k room = rw (append-nil, add-zero) (sym (take-append-drop (w .closed) col))
-written-all w (opening ∷ s) col k room =
-    let here : w .closed < w .closed + closings s = omega (arith, k .last) in
-    let ih = written-all (after w opening) s (set col (w .closed) (suc (w .excess))) (kept-after w opening s k) (rw length-set room) in
+unfolding written after standInFrom openings closings
+written-all w [] col t room = rw (append-nil, add-zero) (sym (take-append-drop (w .closed) col))
+written-all w (opening ∷ s) col t room =
+    let here : w .closed < w .closed + closings s = omega (arith, kept-is (w .excess) (opening ∷ s) t .last) in
+    let ih = written-all (after w opening) s (set col (w .closed) (suc (w .excess))) (balance-after w opening s t) (rw length-set room) in
     rw (take-set-le (w .closed) col (w .closed) (suc (w .excess)) (le-refl (w .closed)), drop-set-lt (w .closed + closings s) col (w .closed) (suc (w .excess)) here) at ih
-written-all w (closing ∷ s) col k room =
+written-all w (closing ∷ s) col t room =
     let e : ℕ = pred (w .excess) in
     let here : w .closed < length col = omega arith in
-    let ih = written-all (after w closing) s (set col (w .closed) e) (kept-after w closing s k) (rw length-set (omega arith)) in
+    let ih = written-all (after w closing) s (set col (w .closed) e) (balance-after w closing s t) (rw length-set (omega arith)) in
     let next : w .closed + suc (closings s) ≡ suc (w .closed) + closings s = omega arith in
     rw next (rw (take-suc-set col (w .closed) e here, append-snoc, drop-set-lt (suc (w .closed) + closings s) col (w .closed) e (omega arith)) at ih)

@@ -1,12 +1,13 @@
 -- A walk along the parentheses, which writes a column as it goes. Every excess is stored at the next entry's place; what an opening stores,
 -- the closing that follows it overwrites.
+use mathlib.Core.Path.{_≡_}
 use Prim.Native.Nat.{ℕ, suc, pred, _+_, _≤_}
+use mathlib.Core.Bool.{true}
 use mathlib.Core.List.{List, [], _∷_, _++_}
 use lib.ListN.{length, set}
 use Rattle.rules.specs.Shape.{Paren, opening, closing}
-use Rattle.rules.specs.Excess.{closings}
+use Rattle.rules.specs.Excess.{closings, balancedFrom}
 use Rattle.rules.specs.Bytes.{most}
-use Rattle.rules.proofs.Excess.{Kept}
 use Rattle.stand_in.specs.declared.Walk.{Walk}
 
 unfoldable pub after : Walk → Paren → Walk
@@ -21,9 +22,9 @@ unfoldable pub written : Walk → List Paren → List ℕ → List ℕ
 written w [] col = col
 written w (p ∷ s) col = written (after w p) s (set col (w .closed) (after w p .excess))
 
--- the walk can go along s: with what follows it the excess comes back to 0, never below, and there is a number for each closing
+-- the walk can go along s: with what follows it is balanced from the walk's excess on, and the column has a number for each closing
 pub record Ready (w : Walk) (s : List Paren) (col : List ℕ) : Type 0 where
   pub rest : List Paren
-  pub kept : Kept (w .excess) (s ++ rest)
+  pub balance : balancedFrom (w .excess) (s ++ rest) ≡ true
   pub few : w .closed + closings (s ++ rest) ≤ most
   pub room : w .closed + closings (s ++ rest) ≤ length col

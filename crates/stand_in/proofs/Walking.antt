@@ -63,7 +63,7 @@ one-gone {w} {col} {p} g =
 pub record Next (w : Walk) (m : ℕ) (col : List ℕ) : Type 0 where
   pub within : w .closed < length col
   pub small : w .excess ≤ most
-  pub above : 1 ≤ w .excess + 2 * m
+  pub above : 1 - m ≤ w .excess + m
 
 next-is : (w : Walk) (m : ℕ) {s : List Paren} {col : List ℕ} → Ready w (paren m ∷ s) col → Next w m col
 unfolding openings closings paren
@@ -80,21 +80,21 @@ next zero b l r = absurd (omega arith)
 next (suc k) b {w} l r = next-is w (b % 2) r
 
 abbrev bitWalk : Walk → ℕ → Walk
-bitWalk w m = record { excess = w .excess + 2 * m - 1; closed = w .closed + 1 - m }
+bitWalk w m = record { excess = w .excess + m - (1 - m); closed = w .closed + (1 - m) }
 
 after-bit : (w : Walk) (m : ℕ) → m < 2 → after w (paren m) ≡ bitWalk w m
 unfolding after paren
 after-bit w zero l =
-    let e : w .excess + 2 * 0 - 1 ≡ pred (w .excess) = omega arith in
-    let k : w .closed + 1 - 0 ≡ suc (w .closed) = omega arith in
+    let e : w .excess + 0 - (1 - 0) ≡ pred (w .excess) = omega arith in
+    let k : w .closed + (1 - 0) ≡ suc (w .closed) = omega arith in
     rw (e, k)
 after-bit w (suc m) l =
-    let e : w .excess + 2 * suc m - 1 ≡ suc (w .excess) = omega arith in
-    let k : w .closed + 1 - suc m ≡ w .closed = omega arith in
+    let e : w .excess + suc m - (1 - suc m) ≡ suc (w .excess) = omega arith in
+    let k : w .closed + (1 - suc m) ≡ w .closed = omega arith in
     rw (e, k)
 
 pub bit-gone : (k b : ℕ) {w₀ w : Walk} {s₀ : List Paren} {col₀ col : List ℕ} → 0 < k → Going w₀ s₀ col₀ w (lowBits k b) col
-    → Going w₀ s₀ col₀ (bitWalk w (b % 2)) (lowBits (k - 1) (b / 2)) (set col (w .closed) (w .excess + 2 * (b % 2) - 1))
+    → Going w₀ s₀ col₀ (bitWalk w (b % 2)) (lowBits (k - 1) (b / 2)) (set col (w .closed) (bitWalk w (b % 2) .excess))
 unfolding lowBits
 bit-gone zero b l g = absurd (omega arith)
 bit-gone (suc k) b {w₀} {w} {s₀} {col₀} {col} l g =

@@ -44,10 +44,11 @@ impl Walk {
         let mut rest = b as u32;
         let mut left = count;
         while 0 < left {
-            let bit = rest % 2;
-            excess = excess + 2 * bit - 1;
+            let opens = rest % 2;
+            let closes = 1 - opens;
+            excess = excess + opens - closes;
             column[closed] = excess;
-            closed = closed + 1 - (bit as usize);
+            closed += closes as usize;
             rest = rest / 2;
             left -= 1;
         }

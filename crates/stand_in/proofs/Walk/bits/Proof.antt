@@ -16,8 +16,8 @@ abbrev μ-loop : tie.MeasureT-loop
 loop-holds : tie.Need-loop-holds Inv-loop μ-loop
 loop-holds c = none-gone (c .pre)
 
-mul-excess : tie.Need-mul-excess Inv-loop μ-loop
-mul-excess c = omega arith
+sub-closes : tie.Need-sub-closes Inv-loop μ-loop
+sub-closes c = omega arith
 
 add-excess : tie.Need-add-excess Inv-loop μ-loop
 add-excess c = omega (arith, next (c .before .loop .left) (c .before .loop .rest) (c .loop-test .taken) (c .before .loop .inv .ready))
@@ -31,14 +31,11 @@ mul-column c = omega arith
 slice-write-column : tie.Need-slice-write-column Inv-loop μ-loop
 slice-write-column c = next (c .before .loop .left) (c .before .loop .rest) (c .loop-test .taken) (c .before .loop .inv .ready) .within
 
-add-closed : tie.Need-add-closed Inv-loop μ-loop
-add-closed c = omega arith
-
 cast-closed : tie.Need-cast-closed Inv-loop μ-loop
 cast-closed c = omega arith
 
-sub-closed : tie.Need-sub-closed Inv-loop μ-loop
-sub-closed c = omega arith
+add-closed : tie.Need-add-closed Inv-loop μ-loop
+add-closed c = omega arith
 
 sub-left : tie.Need-sub-left Inv-loop μ-loop
 sub-left c = omega arith
@@ -62,14 +59,13 @@ bits-spec =
     Inv-loop
     μ-loop
     loop-holds
-    mul-excess
+    sub-closes
     add-excess
     sub-excess
     mul-column
     slice-write-column
-    add-closed
     cast-closed
-    sub-closed
+    add-closed
     sub-left
     loop-less
     loop-again

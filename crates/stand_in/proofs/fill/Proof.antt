@@ -55,7 +55,7 @@ mul-bits c = omega arith
 bits-requires-2 : tie.Need-bits-requires-2 Inv-loop μ-loop
 bits-requires-2 c κs =
     let test = c .before .before .before in
-    last-ready (test .before .before .before .before .pre) (test .before .loop .inv) (test .loop-test .left) (c .before .before .if1 .taken)
+    last-ready (test .before .before .before .before .pre) (test .before .loop .inv) (test .loop-test .left) (omega arith)
 
 same-length : tie.Need-same-length Inv-loop μ-loop
 same-length c = c .before .before .bits2 .kept .1 .0 ∙ c .before .before .before .before .before .before .before .loop .inv .going .same
@@ -63,7 +63,7 @@ same-length c = c .before .before .bits2 .kept .1 .0 ∙ c .before .before .befo
 returns : tie.Need-returns Inv-loop μ-loop
 returns c =
     let test = c .before .before .before .before .before .before in
-    last-filled (test .before .before .before .before .pre) (test .before .loop .inv) (test .loop-test .left) (c .before .before .before .before .before .if1 .taken) (c .before .before .bits2 .ensures .1)
+    last-filled (test .before .before .before .before .pre) (test .before .loop .inv) (test .loop-test .left) (omega arith) (c .before .before .bits2 .ensures .1)
 
 same-length-2 : tie.Need-same-length-2 Inv-loop μ-loop
 same-length-2 c = c .before .before .loop .inv .going .same
@@ -71,7 +71,7 @@ same-length-2 c = c .before .before .loop .inv .going .same
 returns-2 : tie.Need-returns-2 Inv-loop μ-loop
 returns-2 c =
     let test = c .before in
-    none-left (test .before .before .before .before .pre) (test .before .loop .inv) (test .loop-test .left) (c .if1 .left)
+    none-left (test .before .before .before .before .pre) (test .before .loop .inv) (test .loop-test .left) (omega arith)
 
 pub fill-spec : {M : Type 1} → statement M
 fill-spec =

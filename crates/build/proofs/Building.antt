@@ -1,17 +1,18 @@
 -- From the checks and the parts of a record to the contract of `build`.
 -- Assumes nothing.
-use mathlib.Core.Path.{_≡_, refl, sym, _∙_}
+use mathlib.Core.Path.{_≡_, sym}
 use Prim.Native.Nat.{ℕ, _/_, _%_}
 use mathlib.Core.List.{List, _∷_, _++_}
 use borrow.Author.Tests.{le-ltb}
 use lib.ListN.{length, drop, replicate}
 use Rattle.rules.specs.Bytes.{most, recordLength, recordOf, columnRecord}
-use Rattle.rules.specs.Refusal.{Outcome, answer, refusal}
+use Rattle.rules.specs.Refusal.{answer, refusal}
 use Rattle.rules.specs.Order.{buildSays, outputAfter, workAfter}
 use Rattle.answers.specs.declared.Refusal.{Refusal}
 use Rattle.answers.specs.declared.Answer.the-variants.{Is, Refused}
 use Rattle.answers.specs.Said.{number}
-use Rattle.build.specs.Builds.{Builds, Taken, Bodied}
+use Rattle.build.specs.Builds.{Builds}
+use Rattle.build.specs.Body.{Taken, Bodied}
 
 pub refused : (c w o : List ℕ) (x : Refusal) → buildSays c (length w) (length o) ≡ refusal (number x) → Builds c w o (Refused x) w o
 unfolding outputAfter workAfter

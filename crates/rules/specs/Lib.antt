@@ -6,3 +6,5 @@ pub mod StandIn
 pub mod Bytes
 pub mod Refusal
 pub mod Order
+pub mod Drawer
+pub mod Summary

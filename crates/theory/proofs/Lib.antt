@@ -1,4 +1,5 @@
 pub mod Tree
+pub mod Spine
 pub mod Ordered
 pub mod Written
 pub mod Parse

@@ -1,0 +1,4 @@
+pub mod Building
+pub mod Popping
+pub mod Turning
+pub mod Writing

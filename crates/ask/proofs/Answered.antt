@@ -5,42 +5,49 @@ use Prim.Native.Nat.{ℕ, suc, _+_, _-_, _*_, _≤_, _<_}
 use native.Mathlib.Omega.{arith}
 use mathlib.Core.List.{List, _++_}
 use lib.ListN.{length, take, drop, getD, length-drop, take-append-drop}
-use lib.Seq.{take-all, length-take-le}
+use lib.Seq.{take-all}
 use Rattle.rules.specs.Shape.{Paren}
 use Rattle.rules.specs.Column.{IsLeast, least}
 use Rattle.rules.specs.Excess.{closings, closingPlace, excess, excesses, Balanced, entryBetween}
 use Rattle.rules.specs.Bytes.{bytesFor, entries, allBits, parens}
-use Rattle.rules.proofs.Excess.{closings-append, counts-length, excesses-at, balanced-is}
+use Rattle.rules.proofs.Excess.{closings-append, counts-length, excesses-at}
 use Rattle.rules.proofs.Least.{least-is}
 use Rattle.rules.proofs.ClosingPlace.{closing-within, closing-order}
 use Rattle.rules.proofs.Bytes.{allBits-length}
+use Rattle.rules.proofs.Checked.{Checked, says-checked, parens-length}
 use Rattle.rules.proofs.Counted.{excess-counts, least-closes, between-raised}
 use Rattle.scan.specs.declared.Scan.{Scan}
-use Rattle.ask.specs.Lowest.{ground, seenFrom, seenBetween, Asked}
-use Rattle.ask.specs.Passed.{Passed}
+use Rattle.ask.specs.Between.{ground, seenFrom, seenBetween, Asked, Taken}
 
 -- where a scan has ended, the closing that it names is the answer's
 pub record Names (end : Scan) (entry : ℕ) : Type 0 where
   pub near : end .place + 1 ≤ ground
   pub counted : end .smallest + 2 * suc entry ≡ ground + (end .place + 1)
 
-module _ {r : List ℕ} {i j : ℕ} (h : Passed r i j) where
+module _ {r : List ℕ} {i j : ℕ} (h : Taken r i j) where
+  checked : Checked r (entries r)
+  checked = says-checked r (entries r) (h .checks)
+
   abbrev s : List Paren
   s = allBits (drop 4 r)
+
+  pub long : 4 ≤ length r
+  long = omega (arith, checked .whole)
 
   pub body : take (length r - 4) (drop 4 r) ≡ drop 4 r
   body = take-all (length r - 4) (drop 4 r) (omega (arith, length-drop 4 r))
 
   bits : length s ≡ 8 * bytesFor (entries r)
-  bits = omega (arith, allBits-length (drop 4 r), length-drop 4 r, h .exact)
+  bits = omega (arith, allBits-length (drop 4 r), length-drop 4 r, checked .whole)
 
   even : Balanced (take (2 * entries r) s)
   unfolding parens
-  even = balanced-is (take (2 * entries r) s) (h .even)
+  even = checked .balance
 
   entry-closings : closings (take (2 * entries r) s) ≡ entries r
+  unfolding parens
   entry-closings =
-      omega (arith, even .last, counts-length (take (2 * entries r) s), length-take-le (2 * entries r) s (omega (arith, bits)))
+      omega (arith, even .last, counts-length (take (2 * entries r) s), parens-length r (entries r) (checked .framed .long))
 
   all-closings : closings (take (2 * entries r) s) ≤ closings s
   all-closings =
@@ -49,7 +56,7 @@ module _ {r : List ℕ} {i j : ℕ} (h : Passed r i j) where
   pub asked : Asked (drop 4 r) i j
   asked =
       record {
-        few = omega (arith, h .few, allBits-length (drop 4 r), bits);
+        few = omega (arith, checked .framed .few, allBits-length (drop 4 r), bits);
         order = h .order;
         among = omega (arith, h .among, entry-closings, all-closings);
       }
@@ -62,7 +69,7 @@ module _ {r : List ℕ} {i j : ℕ} (h : Passed r i j) where
       let c = excesses ground s in
       let q = least c p z in
       let n = asked .among in
-      let short : length s ≤ ground = omega (arith, bits, h .few) in
+      let short : length s ≤ ground = omega (arith, bits, checked .framed .few) in
       let w = closing-within s j n in
       let l : IsLeast c p z q = least-is c p z (closing-order s i j (h .order) n) in
       let u : q < length s = omega (arith, l .upto) in

@@ -20,7 +20,7 @@ use Rattle.scan.specs.Scan.{scanOf, Ready}
 use Rattle.scan.proofs.Laws.{scan-append, ready-after}
 use Rattle.ask.specs.Byte.{begun, Begins}
 use Rattle.ask.specs.Part.{Ahead, Stops}
-use Rattle.ask.specs.Lowest.{ground, seenBetween, Asked}
+use Rattle.ask.specs.Between.{ground, seenBetween, Asked}
 use Rattle.ask.specs.declared.part.Stop.{Stop}
 use Rattle.ask.proofs.Seek.{scan-counts, bits-more, bits-length, passed}
 use Rattle.ask.proofs.Seen.{scan-seen}

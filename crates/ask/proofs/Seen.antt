@@ -18,7 +18,7 @@ use Rattle.scan.specs.declared.Scan.{Scan}
 use Rattle.scan.specs.Scan.{seen, stepOf, scanOf}
 use Rattle.scan.proofs.Laws.{scan-append}
 use Rattle.ask.specs.Byte.{begun}
-use Rattle.ask.specs.Lowest.{seenFrom}
+use Rattle.ask.specs.Between.{seenFrom}
 
 -- one more excess
 seen-more : (c : List ℕ) (a k : ℕ) → seen (seenFrom c a k) (a + suc k) (getD c (a + suc k) 0) ≡ seenFrom c a (suc k)

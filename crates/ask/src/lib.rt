@@ -13,8 +13,7 @@ ghost use Rattle.rules.specs.Bytes.{entries, parens, allBits};
 ghost use Rattle.rules.specs.Order.{askSays};
 ghost use Rattle.scan.specs.Rows.{rows};
 ghost use Rattle.answers.specs.Said.{said};
-ghost use Rattle.ask.specs.Lowest.{ground, Asked, seenBetween};
-ghost use Rattle.ask.specs.Passed.{Passed};
+ghost use Rattle.ask.specs.Between.{ground, seenBetween, Asked, Taken};
 
 // Excesses are counted from here: a record has at most 65,536 parentheses, so none is below 0.
 const GROUND: usize = 65536;
@@ -56,7 +55,7 @@ fn lowest(t: &[i8; 768], body: &[u8], i: usize, j: usize) -> Scan
 
 // The entry whose closing is the leftmost place of smallest excess from closing i to closing j.
 fn between(bytes: &[u8], i: usize, j: usize) -> usize
-    requires { ⌜ Passed (now bytes) i j ⌝ }
+    requires { ⌜ Taken (now bytes) i j ⌝ }
     ensures { λ r. ⌜ r ≡ entryBetween (parens (entries (now (bytes .entry))) (now (bytes .entry))) i j ⌝ }
 {
     let t = scan::table();

@@ -1,20 +1,17 @@
 -- `ask::ask` meets its contract: a refusal of the check is passed on, then come the two tests of 8, and behind them the answer.
 -- Assumes nothing.
 use mathlib.Core.Path.{_≡_, ap, sym, _∙_}
-use borrow.Author.Tests.{lt-ltb, le-ltb}
-use Rattle.rules.specs.Excess.{entryBetween}
-use Rattle.rules.specs.Bytes.{parens}
 use Rattle.rules.specs.Refusal.{answer}
 use Rattle.rules.specs.Order.{checkSays}
 use Rattle.answers.specs.Said.{said}
-use Rattle.ask.proofs.Says.{ask-checked, ask-refused, checked, passed}
+use Rattle.ask.proofs.Says.{ask-refused, ask-crossed, ask-outside, ask-taken, ask-answered}
 use borrow.Author.Needs.{needs}
 use Rattle.ask.proofs.ask.Statement.{statement}
 use Rattle.ask.proofs.ask.Tie as tie
 
 -- the check has answered n
-answered : (c : tie.After-known-told) → answer (c .before .n .given .0 .0) ≡ checkSays (c .before .before .before .before .before .args .bytes .now)
-answered c = ap said (sym (c .before .n .given .1)) ∙ c .before .before .before .check .ensures
+answered : (c : tie.After-known-told) → checkSays (c .before .before .before .before .before .args .bytes .now) ≡ answer (c .before .n .given .0 .0)
+answered c = sym (c .before .before .before .check .ensures) ∙ ap said (c .before .n .given .1)
 
 check-requires : tie.Need-check-requires
 check-requires c κs = search needs
@@ -24,33 +21,31 @@ enum-known-n c = search needs
 
 returns : tie.Need-returns
 returns c =
-    let start = c .before .before .before .before .before .before in
-    sym (ask-checked (start .args .bytes .now) (start .args .i) (start .args .j) _ (answered (c .before)) ∙ simp (lt-ltb _ _ (c .if1 .taken)))
+    let a = c .before .before .before .before .before .before .args in
+    sym (ask-crossed (a .bytes .now) (a .i) (a .j) (answered (c .before)) (c .if1 .taken))
 
 between-requires : tie.Need-between-requires
 between-requires c κs =
-    let start = c .before .before .before .before .before .before .before in
-    passed (checked (start .args .bytes .now) _ (answered (c .before .before))) (c .before .if1 .left) (c .if2 .taken)
+    let a = c .before .before .before .before .before .before .before .args in
+    ask-taken (a .bytes .now) (a .i) (a .j) (answered (c .before .before)) (c .before .if1 .left) (c .if2 .taken)
 
 returns-2 : tie.Need-returns-2
 returns-2 c =
-    let start = c .before .before .before .before .before .before .before .before in
-    let told = answered (c .before .before .before) in
-    let head = checked (start .args .bytes .now) _ told .head in
-    sym (ask-checked (start .args .bytes .now) (start .args .i) (start .args .j) _ told ∙ simp (le-ltb _ _ (c .before .before .if1 .left), lt-ltb _ _ (c .before .if2 .taken), c .between .ensures, ← head))
+    let a = c .before .before .before .before .before .before .before .before .args in
+    ap answer (c .between .ensures) ∙ sym (ask-answered (a .bytes .now) (a .i) (a .j) (answered (c .before .before .before)) (c .before .before .if1 .left) (c .before .if2 .taken))
 
 enum-known-r : tie.Need-enum-known-r
 enum-known-r c = search needs
 
 returns-3 : tie.Need-returns-3
 returns-3 c =
-    let start = c .before .before .before .before .before .before .before in
-    sym (ask-checked (start .args .bytes .now) (start .args .i) (start .args .j) _ (answered (c .before .before)) ∙ simp (le-ltb _ _ (c .before .if1 .left), le-ltb _ _ (c .if2 .left)))
+    let a = c .before .before .before .before .before .before .before .args in
+    sym (ask-outside (a .bytes .now) (a .i) (a .j) (answered (c .before .before)) (c .before .if1 .left) (c .if2 .left))
 
 returns-4 : tie.Need-returns-4
 returns-4 c =
-    let start = c .before .before .before .before .before in
-    sym (ask-refused (start .args .bytes .now) (start .args .i) (start .args .j) _ (ap said (sym (c .before .r .given .1)) ∙ c .before .before .before .check .ensures))
+    let a = c .before .before .before .before .before .args in
+    sym (ask-refused (a .bytes .now) (a .i) (a .j) (sym (c .before .before .before .check .ensures) ∙ ap said (c .before .r .given .1)))
 
 pub ask-spec : {M : Type 1} → statement M
 ask-spec =

@@ -6,7 +6,7 @@ use mathlib.Core.List.{List}
 use Prim.Native.Nat.{ℕ}
 use Rattle.rules.specs.Excess.{entryBetween}
 use Rattle.rules.specs.Bytes.{entries, parens}
-use Rattle.ask.proofs.Answered.{Names, body, asked, names}
+use Rattle.ask.proofs.Answered.{Names, long, body, asked, names}
 use borrow.Author.Needs.{needs}
 use Rattle.ask.proofs.between.Statement.{statement}
 use Rattle.ask.proofs.between.Tie as tie
@@ -21,10 +21,10 @@ table-requires : tie.Need-table-requires
 table-requires c κs = search needs
 
 sub-lowest : tie.Need-sub-lowest
-sub-lowest c = search needs
+sub-lowest c = long (c .before .before .before .pre)
 
 part-lowest-start : tie.Need-part-lowest-start
-part-lowest-start c = search needs
+part-lowest-start c = long (c .before .before .before .pre)
 
 part-lowest-end : tie.Need-part-lowest-end
 part-lowest-end c = search needs

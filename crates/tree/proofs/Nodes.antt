@@ -2,9 +2,10 @@
 -- Assumes nothing.
 use mathlib.Core.Path.{_≡_, ap, subst, subst⁻¹}
 use mathlib.Core.Logic.{_⊎_, inl, inr, ⊎-elim}
-use Prim.Native.Nat.{ℕ, zero, suc, min, _+_, _-_, _*_, _^_, _≤_, _<_}
+use Prim.Native.Nat.{ℕ, zero, suc, min, _+_, _-_, _*_, _/_, _%_, _^_, _≤_, _<_}
 use native.Mathlib.Nat.{le-trans, le-of-eq, mul-le-mul-left, pow-succ', zero-mul}
 use native.Mathlib.Decide.{decLt}
+use native.Mathlib.Numerals.{add-one}
 use native.Mathlib.Omega.{arith}
 use mathlib.Core.List.{List}
 use lib.Pow.{pow-pos}
@@ -44,6 +45,16 @@ under-half v h x u =
     (λ here. inl (record { first = omega arith; last = here }))
     (λ there. inr (record { first = there; last = omega arith }))
     (below (256 + x) ((2 * v + 1) * 2 ^ h))
+
+-- the node above, one level more
+parity : (v : ℕ) → (v ≡ 2 * (v / 2)) ⊎ (v ≡ 2 * (v / 2) + 1)
+parity v = ⊎-elim (λ p. inl (omega arith)) (λ p. inr (omega arith)) (below (v % 2) 1)
+
+pub parent : {v h x : ℕ} → Under v h x → Under (v / 2) (h + 1) x
+parent {v} {h} {x} u =
+    subst⁻¹ (λ (k : ℕ). Under (v / 2) k x) (add-one h)
+    (half-under (v / 2) h x
+    (⊎-elim (λ e. inl (subst (λ (w : ℕ). Under w h x) e u)) (λ e. inr (subst (λ (w : ℕ). Under w h x) e u)) (parity v)))
 
 -- a node above the leaves has halves, and the smaller of their numbers
 smaller : {t : List ℕ} → Halves t → (v h : ℕ) → Within v (suc h) 256 512 → at t v ≡ min (at t (2 * v)) (at t (2 * v + 1))

@@ -3,7 +3,7 @@
 use mathlib.Core.Path.{_≡_, refl, ap, sym, subst, subst⁻¹, _∙_}
 use mathlib.Core.Logic.{⊎-elim}
 use Prim.Native.Nat.{ℕ, suc, min, _+_, _-_, _*_, _/_, _%_, _^_, _≤_, _<_}
-use native.Mathlib.Nat.{le-refl, le-trans, mul-le-mul-right, min-le-left, min-eq-left, min-eq-right, le-of-lt, pow-succ', div-eq-of-lt-le}
+use native.Mathlib.Nat.{le-refl, le-trans, mul-le-mul-left, mul-le-mul-right, min-le-left, min-eq-left, min-eq-right, le-of-lt, pow-succ', div-eq-of-lt-le}
 use native.Mathlib.Numerals.{add-one}
 use native.Mathlib.Omega.{arith}
 use mathlib.Core.Bool.{cond}
@@ -17,10 +17,10 @@ use Rattle.tree.specs.Keys.{keyOf, leftOf, rightOf, bestOf}
 use Rattle.tree.proofs.Nodes.{below, parent}
 use Rattle.tree.proofs.Beside.{Lowest, alone, join-left, join-right}
 
-best-left : (a b k : ℕ) → k % 16 < 8 → bestOf a b k ≡ leftOf a k
+pub best-left : (a b k : ℕ) → k % 16 < 8 → bestOf a b k ≡ leftOf a k
 best-left a b k p = rw (lt-ltb (k % 16) 8 p)
 
-best-right : (a b k : ℕ) → 8 ≤ k % 16 → bestOf a b k ≡ rightOf b k
+pub best-right : (a b k : ℕ) → 8 ≤ k % 16 → bestOf a b k ≡ rightOf b k
 best-right a b k p = rw (le-ltb (k % 16) 8 p)
 
 best-low : (a b k : ℕ) → bestOf a b k .low ≡ k / 16
@@ -125,11 +125,11 @@ module _ {a b l r h : ℕ} (t : List ℕ) (ua : Under l h a) (ub : Under r h b) 
   pass-left n =
       ⊎-elim
       (λ (p : l % 2 < 1).
-          let even : l + 1 - l % 2 ≡ l + 1 = omega arith in
-          let same : at t (l + 1 - l % 2) ≡ at t (l + 1) = ap (at t) even in
-          carried refl (doubled (l / 2 + 1) (l + 1 + 1) h (omega arith))
-          (passed-left a b l h (at t (l + 1)) (leftKey t l h) ua (level-below l r ub last apart) (omega arith))
-          (node (l + 1) (omega arith) (omega arith) (omega arith)))
+      let even : l + 1 - l % 2 ≡ l + 1 = omega arith in
+      let same : at t (l + 1 - l % 2) ≡ at t (l + 1) = ap (at t) even in
+      carried refl (doubled (l / 2 + 1) (l + 1 + 1) h (omega arith))
+      (passed-left a b l h (at t (l + 1)) (leftKey t l h) ua (level-below l r ub last apart) (omega arith))
+      (node (l + 1) (omega arith) (omega arith) (omega arith)))
       (λ (p : 1 ≤ l % 2). out a b (leftKey t l h) (doubled (l / 2 + 1) (l + 1) h (omega arith)) (omega arith))
       (below (l % 2) 1)
 
@@ -138,13 +138,28 @@ module _ {a b l r h : ℕ} (t : List ℕ) (ua : Under l h a) (ub : Under r h b) 
       ⊎-elim
       (λ (p : r % 2 < 1). out a b (rightKey t r h) (sym (doubled (r / 2) r h (omega arith))) (omega arith))
       (λ (p : 1 ≤ r % 2).
-          let odd : r - r % 2 ≡ r - 1 = omega arith in
-          let same : at t (r - r % 2) ≡ at t (r - 1) = ap (at t) odd in
-          let next : r ≡ r - 1 + 1 = omega arith in
-          carried (doubled (r / 2) (r - 1) h (omega arith)) (ap (λ (w : ℕ). w * 2 ^ h) next)
-          (passed-right a b (r - 1) h (at t (r - 1)) (rightKey t r h) (subst (λ (w : ℕ). Under w h b) next ub) (level-below l r ub last apart) (omega arith))
-          (node (r - 1) (omega arith) (omega arith) (omega arith)))
+      let odd : r - r % 2 ≡ r - 1 = omega arith in
+      let same : at t (r - r % 2) ≡ at t (r - 1) = ap (at t) odd in
+      let next : r ≡ r - 1 + 1 = omega arith in
+      carried (doubled (r / 2) (r - 1) h (omega arith)) (ap (λ (w : ℕ). w * 2 ^ h) next)
+      (passed-right a b (r - 1) h (at t (r - 1)) (rightKey t r h) (subst (λ (w : ℕ). Under w h b) next ub) (level-below l r ub last apart) (omega arith))
+      (node (r - 1) (omega arith) (omega arith) (omega arith)))
       (below (r % 2) 1)
+
+-- the two stay in the tree
+pub record Inside (l r h : ℕ) : Type 0 where
+  pub levels : h ≤ 7
+  pub leaves : r < 512
+  pub apart : l < r
+
+pub climb-inside : {t : List ℕ} {a b l r h k : ℕ} → b ≤ 255 → (l / 2 ≡ r / 2 → ⊥) → Climbing t a b l r h k → Inside l r h
+climb-inside {t} {a} {b} {l} {r} {h} last unmet c =
+    let p = c .apart in
+    record {
+      levels = level-below l r (c .over-b) last (omega arith);
+      leaves = omega (arith, mul-le-mul-left r (pow-pos h), c .over-b .first);
+      apart = p;
+    }
 
 lower-right : (x y h : ℕ) → 15 ≤ x % 16 + h → 15 ≤ y % 16 + h → 15 ≤ min x y % 16 + h
 lower-right x y h p q = omega arith

@@ -1,0 +1,3 @@
+pub mod Nodes
+pub mod Beside
+pub mod Climbing

@@ -1,0 +1,104 @@
+// The tree of smallest excesses in a lent summary (document 01, "The summary"): from two blocks up to
+// the node between them that has the smallest number, and from a node down to its block. The numbers
+// may be any numbers: no search leaves the tree, and where every node is the smaller of its halves it
+// finds the leftmost block.
+ghost use mathlib.Core.Path.{_≡_};
+ghost use Prim.Native.Nat.{min, _+_, _*_, _≤_, _<_};
+ghost use lib.ListN.{length};
+ghost use Rattle.tree.specs.Tree.{at, Within, Descended, Between};
+ghost use Rattle.tree.specs.Keys.{keyOf, bestOf};
+
+// The number of node v.
+fn number(t: &[u16], v: usize) -> usize
+    requires { ⌜ (896 ≤ length (now t)) × (v < 512) ⌝ }
+    ensures { λ r. ⌜ (r ≡ at (now (t .entry)) v) × (r ≤ 65535) ⌝ }
+{
+    t[256 + v] as usize
+}
+
+// The block to which a search comes down from node v, which stands level levels above the leaves: the
+// leftmost of those with the node's number. It goes to one of the node's two halves, one level fewer
+// each time.
+pub fn descend(t: &[u16], v: usize, level: usize) -> usize
+    requires { ⌜ (896 ≤ length (now t)) × Within v level 256 512 ⌝ }
+    ensures { λ r. ⌜ Descended (now (t .entry)) v level r ⌝ }
+{
+    if level == 0 {
+        return v - 256;
+    }
+    let left = 2 * v;
+    let half = if number(t, left) <= number(t, v) {
+        left
+    } else {
+        left + 1
+    };
+    descend(t, half, level - 1)
+}
+
+// A node with the smallest number among some that stand side by side, the leftmost of them.
+pub struct Best {
+    pub low: usize,
+    pub node: usize,
+    pub level: usize,
+}
+
+// A node's key: the smaller of two has the smaller number and, where these are equal, the smaller rank.
+// Where out is 1 the key is above that of any node. So the climb below needs no branch.
+fn key(t: &[u16], v: usize, out: usize, rank: usize) -> usize
+    requires { ⌜ (896 ≤ length (now t)) × (v < 512) × (out ≤ 1) × (rank < 16) ⌝ }
+    ensures { λ r. ⌜ (r ≡ keyOf (now (t .entry)) v out rank) × (at (now (t .entry)) v ≤ 65535) ⌝ }
+{
+    16 * (number(t, v) + 65536 * out) + rank
+}
+
+fn lower(x: usize, y: usize) -> usize
+    ensures { λ r. ⌜ r ≡ min x y ⌝ }
+{
+    if x <= y { x } else { y }
+}
+
+// The node whose key this is, passed by the climb from a or from b.
+fn found(best: usize, a: usize, b: usize) -> Best
+    requires { ⌜ (a ≤ 255) × (b ≤ 255) ⌝ }
+    ensures { λ r. ⌜ r ≡ bestOf a b best ⌝ }
+{
+    let low = best / 16;
+    let rank = best % 16;
+    if rank < 8 {
+        Best {
+            low,
+            node: ((256 + a) >> rank) + 1,
+            level: rank,
+        }
+    } else {
+        let level = 15 - rank;
+        Best {
+            low,
+            node: ((256 + b) >> level) - 1,
+            level,
+        }
+    }
+}
+
+// The node with the smallest number among those that together cover the blocks between a and b, both
+// left out; 65,536 where there is none. The two leaves climb to where they meet. What lies inside of a
+// node and under the same parent is passed: from a its right neighbour, from b its left one. The nodes
+// passed from a stand left to right, then those from b, the last passed first: so go the ranks.
+pub fn climb(t: &[u16], a: usize, b: usize) -> Best
+    requires { ⌜ (896 ≤ length (now t)) × (a < b) × (b ≤ 255) ⌝ }
+    ensures { λ r. ⌜ Between (now (t .entry)) a b r ⌝ }
+{
+    let mut l = 256 + a;
+    let mut r = 256 + b;
+    let mut h = 0;
+    let mut best = 1048576;
+    while l / 2 != r / 2 {
+        let left = key(t, l + 1 - l % 2, l % 2, h);
+        let right = key(t, r - r % 2, 1 - r % 2, 15 - h);
+        best = lower(best, lower(left, right));
+        l /= 2;
+        r /= 2;
+        h += 1;
+    }
+    found(best, a, b)
+}

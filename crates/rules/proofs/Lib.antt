@@ -10,4 +10,5 @@ pub mod Same
 pub mod Every
 pub mod Checked
 pub mod Record
+pub mod Summary
 pub mod Table

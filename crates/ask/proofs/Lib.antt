@@ -1,0 +1,4 @@
+pub mod Opened
+pub mod Fillers
+pub mod Seek
+pub mod Seen

@@ -1,0 +1,3 @@
+// Plain ask: from a record alone.
+pub mod byte;
+pub mod part;

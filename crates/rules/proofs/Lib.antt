@@ -12,4 +12,5 @@ pub mod Counted
 pub mod Every
 pub mod Checked
 pub mod Record
+pub mod Summary
 pub mod Table

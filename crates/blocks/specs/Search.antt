@@ -1,0 +1,44 @@
+-- The summary's numbers as the way to a closing: what is said for any numbers whatever, and what is right where they are the summary of
+-- the parentheses s.
+use mathlib.Core.Path.{_≡_}
+use Prim.Native.Nat.{ℕ, max, _+_, _-_, _*_, _/_, _≤_, _<_}
+use mathlib.Core.List.{List}
+use lib.ListN.{length, take, getD}
+use Rattle.rules.specs.Shape.{Paren}
+use Rattle.rules.specs.Excess.{closingPlace, excess, Balanced}
+use Rattle.rules.specs.Bytes.{most}
+use Rattle.rules.specs.Summary.{slots, blocksFor, summaryOf}
+
+-- t begins with the summary of s, the balanced parentheses of n entries
+pub record Own (t : List ℕ) (s : List Paren) (n : ℕ) : Type 0 where
+  pub balance : Balanced s
+  pub long : length s ≡ 2 * n
+  pub few : n ≤ most
+  pub filled : take slots t ≡ summaryOf s
+
+-- a search from one block up to another stops at block r: up to the end of the block before it there are no more than i closings, up to
+-- its own end there are more
+pub record Stops (t : List ℕ) (i from to r : ℕ) : Type 0 where
+  pub low : from ≤ r
+  pub high : r ≤ max from to
+  pub passed : from < r → 256 * r ≤ 2 * i + getD t (r - 1) 0
+  pub ahead : r < to → 2 * i + getD t r 0 < 256 * (r + 1)
+
+-- the block of closing number 256(q + 1) where the summary names one, else the last there is
+pub record Last (t : List ℕ) (blocks q r : ℕ) : Type 0 where
+  pub within : r < blocks
+  pub named : q < 127 → getD t (769 + q) 0 < blocks → r ≡ getD t (769 + q) 0
+  pub other : blocks ≤ getD t (769 + q) 0 → r ≡ blocks - 1
+  pub end : 127 ≤ q → r ≡ blocks - 1
+
+-- the block in which closing number i stands
+pub record StandsIn (t : List ℕ) (blocks i r : ℕ) : Type 0 where
+  pub strange : blocks ≤ getD t (768 + i / 256) 0 → r ≡ getD t (768 + i / 256) 0
+  pub within : getD t (768 + i / 256) 0 < blocks → r < blocks
+  pub right : (s : List Paren) (n : ℕ) → Own t s n → i < n → blocks ≡ blocksFor n → closingPlace s i / 256 ≡ r
+
+-- the excess before block k
+pub record Before (t : List ℕ) (k r : ℕ) : Type 0 where
+  pub first : k ≡ 0 → r ≡ 0
+  pub later : 0 < k → r ≡ getD t (k - 1) 0
+  pub right : (s : List Paren) (n : ℕ) → Own t s n → 0 < k → k < blocksFor n → r ≡ excess 0 s (256 * k - 1)

@@ -1,11 +1,11 @@
 -- The byte in which closing i stands, and what is read from there to closing j: in the same byte, or in bytes behind it.
 -- Of any bytes, balanced or not. Assumes nothing.
-use mathlib.Core.Path.{_≡_, refl, ap, sym, subst⁻¹, _∙_}
+use mathlib.Core.Path.{_≡_, ap, sym, subst⁻¹, _∙_}
 use Prim.Native.Nat.{ℕ, suc, _+_, _-_, _*_, _/_, _≤_, _<_}
 use native.Mathlib.Numerals.{add-one}
 use native.Mathlib.Omega.{arith}
-use mathlib.Core.List.{List, [], _∷_, _++_, append-assoc}
-use lib.ListN.{length, take, drop, getD, length-drop, length-append, take-append-drop, List·getD-append}
+use mathlib.Core.List.{List, _++_, append-assoc}
+use lib.ListN.{length, take, drop, getD, length-drop, take-append-drop, List·getD-append}
 use lib.Seq.{take-all, take-append-add, take-append-le, drop-append-add, drop-append-le, length-take-le, getD-append-add}
 use Rattle.rules.specs.Shape.{Paren, opening, closing}
 use Rattle.rules.specs.Excess.{closings, closingPlace, excess}
@@ -192,12 +192,12 @@ module _ {bs : List ℕ} {i j : ℕ} {r : Stop} (q : Asked bs i j) (w : Stops st
         let c : closings s ≡ passed bs (r .byte + 1) + closings z = ap closings joined ∙ closings-append (allBits (take (r .byte + 1) bs)) z in
         record {
           ready = subst⁻¹ (λ (x : Scan). Ready x (8 * length (drop (r .byte + 1) bs))) f
-            (ready-after (begun (excessAt i r) (8 * r .byte + r .bit)) (8 * r .byte + r .bit + 1) (8 * length (drop (r .byte + 1) bs)) (drop (r .bit + 1) v)
-            (record {
-              room = omega (arith, rest, number-low, byte-low, bit, q .few, w .byte);
-              high = omega (arith, rest, byte-low, bit, q .few, w .byte);
-              bound = omega (arith, byte-low, bit);
-            }));
+              (ready-after (begun (excessAt i r) (8 * r .byte + r .bit)) (8 * r .byte + r .bit + 1) (8 * length (drop (r .byte + 1) bs)) (drop (r .bit + 1) v)
+              (record {
+                room = omega (arith, rest, number-low, byte-low, bit, q .few, w .byte);
+                high = omega (arith, rest, byte-low, bit, q .few, w .byte);
+                bound = omega (arith, byte-low, bit);
+              }));
           near = omega (arith, q .few, w .byte);
           among = omega (arith, q .among);
         }

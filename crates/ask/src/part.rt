@@ -1,6 +1,6 @@
 // Some bytes of parentheses, read until a closing that is asked for.
-use scan::Scan;
 use crate::byte;
+use scan::Scan;
 ghost use mathlib.Core.Path.{_≡_};
 ghost use Prim.Native.Nat.{_+_};
 ghost use lib.ListN.{take};

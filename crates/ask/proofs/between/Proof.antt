@@ -1,9 +1,6 @@
 -- `ask::between` meets its contract: the scan ends with the place of the answer's closing and the excess there, which tell its number.
 -- Assumes nothing.
-use mathlib.Core.Path.{ap, _∙_}
 use native.Mathlib.Omega.{arith}
-use mathlib.Core.List.{List}
-use Prim.Native.Nat.{ℕ}
 use Rattle.rules.specs.Excess.{entryBetween}
 use Rattle.rules.specs.Bytes.{entries, parens}
 use Rattle.ask.proofs.Answered.{Names, long, body, asked, names}

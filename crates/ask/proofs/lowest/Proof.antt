@@ -1,14 +1,11 @@
 -- `ask::lowest` meets its contract: closing i's byte is found, and closing j is in it or in the bytes behind it.
 -- Assumes nothing.
-use mathlib.Core.Path.{_≡_, ap, subst⁻¹, _∙_}
-use Prim.Native.Nat.{ℕ, _+_, _-_, _*_, _/_, _≤_, _<_}
+use mathlib.Core.Path.{_≡_, _∙_}
+use Prim.Native.Nat.{_+_, _-_, _≤_, _<_}
 use native.Mathlib.Omega.{arith}
-use mathlib.Core.List.{List}
 use lib.ListN.{getD}
 use Rattle.rules.specs.Excess.{closingPlace}
 use Rattle.rules.specs.Bytes.{lowBits}
-use Rattle.scan.specs.Scan.{scanOf}
-use Rattle.ask.specs.Part.{Ahead}
 use Rattle.ask.proofs.Seek.{passed}
 use Rattle.ask.proofs.FromClosing.{number-low, byte-low, begins, before-fits, before-is, next-fits, next-is, before-low, same-among, same-low, same-order, same-seen, next-part, apart-ahead, apart-seen}
 use borrow.Author.Needs.{needs}
@@ -37,8 +34,8 @@ behind c = rw (upto (c .before)) at (c .if1 .left)
 
 at-bit : (c : tie.After-nth)
     → let seek = c .before .before .before .before .before .before .before in
-      let args = seek .before .before .args in
-      c .nth .result ≡ closingPlace (lowBits 8 (getD (args .body .now) (seek .seek .result .byte) 0)) (args .j - passed (args .body .now) (seek .seek .result .byte))
+    let args = seek .before .before .args in
+    c .nth .result ≡ closingPlace (lowBits 8 (getD (args .body .now) (seek .seek .result .byte) 0)) (args .j - passed (args .body .now) (seek .seek .result .byte))
 at-bit c = rw (before (c .before)) at (c .nth .ensures)
 
 seek-requires : tie.Need-seek-requires

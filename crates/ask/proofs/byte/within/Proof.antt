@@ -12,7 +12,7 @@ use Rattle.ask.proofs.byte.within.Tie as tie
 
 undone : (c : tie.After-behind)
     → let a = c .before .before .args in
-      Undone (8 - a .k) (c .behind .result) (scanOf (begun (a .e) (a .at + a .x)) (a .at + a .x + 1) (drop (a .x + 1) (take (a .k) (lowBits 8 (a .b)))))
+    Undone (8 - a .k) (c .behind .result) (scanOf (begun (a .e) (a .at + a .x)) (a .at + a .x + 1) (drop (a .x + 1) (take (a .k) (lowBits 8 (a .b)))))
 undone c =
     let start = c .before .before in
     let o = c .before .opened in

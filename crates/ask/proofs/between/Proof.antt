@@ -29,7 +29,7 @@ part-lowest-end c = search needs
 lowest-requires : tie.Need-lowest-requires
 lowest-requires c κs =
     let h = c .before .before .before .before .pre in
-    (c .before .before .table .ensures, rw (body h) (asked h))
+    (c .before .before .table .ensures, rw (body h) (omega (arith, asked h)))
 
 add-closings : tie.Need-add-closings
 add-closings c = omega (arith, named (c .before))

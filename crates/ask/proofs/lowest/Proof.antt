@@ -121,10 +121,10 @@ add-within c =
 within-requires : tie.Need-within-requires
 within-requires c κs =
     let seek = c .before .before .before .before .before .before .before in
-    let start = seek .before .before in
+    let q = seek .before .before .pre .1 in
     let w = seek .seek .ensures in
     let h = in-byte (c .before .before .before) in
-    (start .pre .0, begins (start .pre .1) w, same-order (start .pre .1) w h (at-bit c), omega (arith, same-low (start .pre .1) w h (at-bit c)))
+    (seek .before .before .pre .0, begins q w, omega (arith, same-order q w h (at-bit c)), omega (arith, same-low q w h (at-bit c)))
 
 returns : tie.Need-returns
 returns c =

@@ -3,12 +3,12 @@
 use mathlib.Core.Path.{_≡_, ap, sym, _∙_}
 use Prim.Native.Nat.{ℕ, suc, _+_, _-_, _*_, _≤_, _<_}
 use native.Mathlib.Omega.{arith}
-use mathlib.Core.List.{List, _++_}
+use mathlib.Core.List.{List}
 use lib.ListN.{length, take, drop, getD, length-drop, take-append-drop}
 use lib.Seq.{take-all}
 use Rattle.rules.specs.Shape.{Paren}
 use Rattle.rules.specs.Column.{IsLeast, least}
-use Rattle.rules.specs.Excess.{closings, closingPlace, excess, excesses, Balanced, entryBetween}
+use Rattle.rules.specs.Excess.{closings, closingPlace, excesses, Balanced, entryBetween}
 use Rattle.rules.specs.Bytes.{bytesFor, entries, allBits, parens}
 use Rattle.rules.proofs.Excess.{closings-append, counts-length, excesses-at}
 use Rattle.rules.proofs.Least.{least-is}

@@ -1,14 +1,14 @@
 -- What is read in place of the parentheses that are not meant leaves no mark: closings before the first one, openings behind the last.
 -- Assumes nothing.
-use mathlib.Core.Path.{_≡_, refl, ap, sym, _∙_}
+use mathlib.Core.Path.{_≡_, refl, ap, _∙_}
 use Prim.Native.Nat.{ℕ, zero, suc, pred, _+_, _-_, _≤_, _<_}
-use native.Mathlib.Nat.{add-zero, add-suc, suc-add, le-refl}
+use native.Mathlib.Nat.{add-zero, le-refl}
 use native.Mathlib.Numerals.{add-one}
 use native.Mathlib.Decide.{decLt}
 use native.Mathlib.Omega.{arith}
 use mathlib.Core.Bool.{Bool, true, false, cond}
 use mathlib.Core.List.{List, [], _∷_, _++_}
-use borrow.Author.Tests.{lt-ltb, ltb-true, ltb-false}
+use borrow.Author.Tests.{lt-ltb, ltb-false}
 use lib.Dec.{ltb}
 use lib.ListN.{length, take, drop, getD, replicate, List·getD-append, List·getD-eq-default}
 use lib.Seq.{drop-cons, drop-append-le, length-take-le, getD-take}

@@ -1,14 +1,14 @@
 -- A scan sees the leftmost smallest excess: one parenthesis after another, its three numbers are those of the excesses read so far.
 -- Of any sequence, from any ground that is high enough. Assumes nothing.
 use mathlib.Core.Path.{_≡_, refl, ap, sym, _∙_}
-use Prim.Native.Nat.{ℕ, zero, suc, pred, _+_, _-_, _≤_, _<_}
-use native.Mathlib.Nat.{add-suc, add-zero, suc-add}
+use Prim.Native.Nat.{ℕ, zero, suc, _+_, _-_, _≤_, _<_}
+use native.Mathlib.Nat.{add-suc, add-zero}
 use native.Mathlib.Numerals.{add-one}
 use native.Mathlib.Omega.{arith}
 use mathlib.Core.Bool.{Bool, true, false, cond}
 use mathlib.Core.List.{List, [], _∷_, _++_}
 use lib.Dec.{ltb}
-use lib.ListN.{length, take, drop, getD, length-drop, drop-of-length-le}
+use lib.ListN.{length, take, drop, getD, length-drop}
 use lib.Seq.{take-suc, drop-append-le, length-take-le, slice-empty}
 use Rattle.rules.specs.Shape.{Paren, opening, closing}
 use Rattle.rules.specs.Column.{leastOf}

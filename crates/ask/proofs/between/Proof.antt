@@ -1,9 +1,6 @@
 -- `ask::between` meets its contract: the scan ends with the place of the answer's closing and the excess there, which tell its number.
 -- Assumes nothing.
-use mathlib.Core.Path.{ap, _∙_}
 use native.Mathlib.Omega.{arith}
-use mathlib.Core.List.{List}
-use Prim.Native.Nat.{ℕ}
 use Rattle.rules.specs.Excess.{entryBetween}
 use Rattle.rules.specs.Bytes.{entries, parens}
 use Rattle.ask.proofs.Answered.{Names, long, body, asked, names}
@@ -32,7 +29,7 @@ part-lowest-end c = search needs
 lowest-requires : tie.Need-lowest-requires
 lowest-requires c κs =
     let h = c .before .before .before .before .pre in
-    (c .before .before .table .ensures, rw (body h) (asked h))
+    (c .before .before .table .ensures, rw (body h) (omega (arith, asked h)))
 
 add-closings : tie.Need-add-closings
 add-closings c = omega (arith, named (c .before))

@@ -1,14 +1,11 @@
 -- `ask::lowest` meets its contract: closing i's byte is found, and closing j is in it or in the bytes behind it.
 -- Assumes nothing.
-use mathlib.Core.Path.{_≡_, ap, subst⁻¹, _∙_}
-use Prim.Native.Nat.{ℕ, _+_, _-_, _*_, _/_, _≤_, _<_}
+use mathlib.Core.Path.{_≡_, _∙_}
+use Prim.Native.Nat.{_+_, _-_, _≤_, _<_}
 use native.Mathlib.Omega.{arith}
-use mathlib.Core.List.{List}
 use lib.ListN.{getD}
 use Rattle.rules.specs.Excess.{closingPlace}
 use Rattle.rules.specs.Bytes.{lowBits}
-use Rattle.scan.specs.Scan.{scanOf}
-use Rattle.ask.specs.Part.{Ahead}
 use Rattle.ask.proofs.Seek.{passed}
 use Rattle.ask.proofs.FromClosing.{number-low, byte-low, begins, before-fits, before-is, next-fits, next-is, before-low, same-among, same-low, same-order, same-seen, next-part, apart-ahead, apart-seen}
 use borrow.Author.Needs.{needs}
@@ -37,8 +34,8 @@ behind c = rw (upto (c .before)) at (c .if1 .left)
 
 at-bit : (c : tie.After-nth)
     → let seek = c .before .before .before .before .before .before .before in
-      let args = seek .before .before .args in
-      c .nth .result ≡ closingPlace (lowBits 8 (getD (args .body .now) (seek .seek .result .byte) 0)) (args .j - passed (args .body .now) (seek .seek .result .byte))
+    let args = seek .before .before .args in
+    c .nth .result ≡ closingPlace (lowBits 8 (getD (args .body .now) (seek .seek .result .byte) 0)) (args .j - passed (args .body .now) (seek .seek .result .byte))
 at-bit c = rw (before (c .before)) at (c .nth .ensures)
 
 seek-requires : tie.Need-seek-requires
@@ -124,10 +121,10 @@ add-within c =
 within-requires : tie.Need-within-requires
 within-requires c κs =
     let seek = c .before .before .before .before .before .before .before in
-    let start = seek .before .before in
+    let q = seek .before .before .pre .1 in
     let w = seek .seek .ensures in
     let h = in-byte (c .before .before .before) in
-    (start .pre .0, begins (start .pre .1) w, same-order (start .pre .1) w h (at-bit c), omega (arith, same-low (start .pre .1) w h (at-bit c)))
+    (seek .before .before .pre .0, begins q w, omega (arith, same-order q w h (at-bit c)), omega (arith, same-low q w h (at-bit c)))
 
 returns : tie.Need-returns
 returns c =

@@ -1,0 +1,2 @@
+// Quick ask: from a record and its summary.
+pub mod part;

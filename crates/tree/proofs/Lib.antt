@@ -1,3 +1,4 @@
 pub mod Nodes
 pub mod Beside
 pub mod Climbing
+pub mod Meeting

@@ -5,7 +5,7 @@
 ghost use mathlib.Core.Path.{_≡_};
 ghost use Prim.Native.Nat.{min, _+_, _*_, _≤_, _<_};
 ghost use lib.ListN.{length};
-ghost use Rattle.tree.specs.Tree.{at, Within, Descended, Between};
+ghost use Rattle.tree.specs.Tree.{at, Within, Descended, Between, Over};
 ghost use Rattle.tree.specs.Keys.{keyOf, bestOf};
 
 // The number of node v.
@@ -101,4 +101,15 @@ pub fn climb(t: &[u16], a: usize, b: usize) -> Best
         h += 1;
     }
     found(best, a, b)
+}
+
+// The number of the lowest node that stands over both a and b: no block from a to b has a smaller
+// one. The node is what the two leaves' numbers have in common, from the highest bit down.
+pub fn over(t: &[u16], a: usize, b: usize) -> usize
+    requires { ⌜ (896 ≤ length (now t)) × (a ≤ 255) × (b ≤ 255) ⌝ }
+    ensures { λ r. ⌜ Over (now (t .entry)) a b r ⌝ }
+{
+    let l = 256 + a;
+    let level = 64 - u64::leading_zeros((l ^ (256 + b)) as u64);
+    number(t, l >> level)
 }

@@ -2,19 +2,17 @@
 -- Assumes nothing.
 use mathlib.Core.Path.{_≡_, refl, ap, sym, subst, subst⁻¹, _∙_}
 use mathlib.Core.Logic.{⊎-elim}
-use Prim.Native.Nat.{ℕ, suc, min, _+_, _-_, _*_, _/_, _%_, _^_, _≤_, _<_}
-use native.Mathlib.Nat.{le-refl, le-trans, mul-le-mul-left, mul-le-mul-right, min-le-left, min-eq-left, min-eq-right, le-of-lt, pow-succ', div-eq-of-lt-le}
+use Prim.Native.Nat.{ℕ, min, _+_, _-_, _*_, _/_, _%_, _^_, _≤_, _<_}
+use native.Mathlib.Nat.{le-trans, mul-le-mul-left, mul-le-mul-right, min-le-left, min-eq-left, min-eq-right, le-of-lt, pow-succ', div-eq-of-lt-le}
 use native.Mathlib.Numerals.{add-one}
 use native.Mathlib.Omega.{arith}
-use mathlib.Core.Bool.{cond}
 use mathlib.Core.List.{List}
-use lib.Dec.{ltb}
 use lib.Pow.{pow-pos, pow-mono}
 use borrow.Author.Tests.{lt-ltb, le-ltb}
 use Rattle.tree.specs.declared.Best.{Best}
 use Rattle.tree.specs.Tree.{at, Within, Under, Between}
 use Rattle.tree.specs.Keys.{keyOf, leftOf, rightOf, bestOf}
-use Rattle.tree.proofs.Nodes.{below, parent}
+use Rattle.tree.proofs.Nodes.{below, wider, parent}
 use Rattle.tree.proofs.Beside.{Lowest, alone, join-left, join-right}
 
 pub best-left : (a b k : ℕ) → k % 16 < 8 → bestOf a b k ≡ leftOf a k
@@ -67,19 +65,19 @@ climb-starts t a b p =
       lower = refl;
     }
 
--- a node of the tree's last levels stands eight levels up at most
-pub level-bound : {v h x : ℕ} → Under v h x → x ≤ 255 → 1 ≤ v → h ≤ 8
+-- a node over a block stands eight levels above it at most
+level-bound : {v h x : ℕ} → Under v h x → x ≤ 255 → 1 ≤ v → h ≤ 8
 level-bound {v} {h} {x} u b p =
     ⊎-elim (λ q. omega arith) (λ q. absurd (omega (arith, mul-le-mul-right (2 ^ h) p, pow-mono q, u .first))) (below h 9)
 
--- a node between them, and what stands under it
+-- under a node between the two stand only blocks between
 between : {a b l r h : ℕ} (v : ℕ) → Under l h a → Under r h b → l < v → v < r → Within v h (257 + a) (256 + b)
 between {a} {b} {l} {r} {h} v ua ub p q =
     let f = mul-le-mul-right (2 ^ h) p in
     let e = mul-le-mul-right (2 ^ h) q in
     record { first = omega (arith, ua .last); last = omega (arith, ub .first) }
 
--- the key of a node that is passed, and of one that is out
+-- what the key of a node that is passed stands for, from a and from b
 passed-left : (a b l h x k : ℕ) → Under l h a → h ≤ 7 → k ≡ 16 * x + h → bestOf a b k ≡ record { low = x; node = l + 1; level = h }
 passed-left a b l h x k u p e =
     let low : k / 16 ≡ x = omega arith in
@@ -112,14 +110,13 @@ abbrev pub rightKey : List ℕ → ℕ → ℕ → ℕ
 rightKey t r h = keyOf t (r - r % 2) (1 - r % 2) (15 - h)
 
 -- where the two have not met, the next level is in the tree too
-pub level-below : {b h : ℕ} (l r : ℕ) → Under r h b → b ≤ 255 → l / 2 < r / 2 → h ≤ 7
+level-below : {b h : ℕ} (l r : ℕ) → Under r h b → b ≤ 255 → l / 2 < r / 2 → h ≤ 7
 level-below l r ub last apart = omega (arith, level-bound (parent ub) last (omega arith))
 
 module _ {a b l r h : ℕ} (t : List ℕ) (ua : Under l h a) (ub : Under r h b) (last : b ≤ 255) (apart : l / 2 < r / 2) where
   node : (v : ℕ) → l < v → v < r → at t v ≤ 65535 → Lowest t (v * 2 ^ h) ((v + 1) * 2 ^ h) (record { low = at t v; node = v; level = h })
   node v p q n =
-      let w = between v ua ub p q in
-      alone v h (omega (arith, level-below l r ub last apart)) n (record { first = omega (arith, w .first); last = omega (arith, w .last) })
+      alone v h (omega (arith, level-below l r ub last apart)) n (wider (omega arith) (omega arith) (between v ua ub p q))
 
   pass-left : at t (l + 1 - l % 2) ≤ 65535 → Lowest t ((l + 1) * 2 ^ h) ((l / 2 + 1) * 2 ^ (h + 1)) (bestOf a b (leftKey t l h))
   pass-left n =
@@ -147,19 +144,24 @@ module _ {a b l r h : ℕ} (t : List ℕ) (ua : Under l h a) (ub : Under r h b) 
       (below (r % 2) 1)
 
 -- the two stay in the tree
-pub record Inside (l r h : ℕ) : Type 0 where
+pub record Inside (r h : ℕ) : Type 0 where
   pub levels : h ≤ 7
   pub leaves : r < 512
-  pub apart : l < r
 
-pub climb-inside : {t : List ℕ} {a b l r h k : ℕ} → b ≤ 255 → (l / 2 ≡ r / 2 → ⊥) → Climbing t a b l r h k → Inside l r h
+pub climb-inside : {t : List ℕ} {a b l r h k : ℕ} → b ≤ 255 → (l / 2 ≡ r / 2 → ⊥) → Climbing t a b l r h k → Inside r h
 climb-inside {t} {a} {b} {l} {r} {h} last unmet c =
     let p = c .apart in
     record {
       levels = level-below l r (c .over-b) last (omega arith);
       leaves = omega (arith, mul-le-mul-left r (pow-pos h), c .over-b .first);
-      apart = p;
     }
+
+-- level by level the two sides widen
+widens-left : (l h : ℕ) → (l + 1) * 2 ^ h ≤ (l / 2 + 1) * 2 ^ (h + 1)
+widens-left l h = rw (doubled (l / 2 + 1) (2 * (l / 2 + 1)) h refl) (mul-le-mul-right (2 ^ h) (omega arith))
+
+widens-right : (r h : ℕ) → r / 2 * 2 ^ (h + 1) ≤ r * 2 ^ h
+widens-right r h = rw (doubled (r / 2) (2 * (r / 2)) h refl) (mul-le-mul-right (2 ^ h) (omega arith))
 
 lower-right : (x y h : ℕ) → 15 ≤ x % 16 + h → 15 ≤ y % 16 + h → 15 ≤ min x y % 16 + h
 lower-right x y h p q = omega arith
@@ -176,8 +178,6 @@ climb-on {t} {a} {b} {l} {r} {h} {k} last unmet x y c =
     let i = c .left-rank in
     let j = c .right-rank in
     let from : 257 + a ≤ (l + 1) * 2 ^ h = omega (arith, c .over-a .last) in
-    let more : (l + 1) * 2 ^ h ≤ (l / 2 + 1) * 2 ^ (h + 1) = omega (arith, doubled (l / 2 + 1) (2 * (l / 2 + 1)) h refl, mul-le-mul-right {m = l + 1} {n = 2 * (l / 2 + 1)} (2 ^ h) (omega arith)) in
-    let fewer : r / 2 * 2 ^ (h + 1) ≤ r * 2 ^ h = omega (arith, doubled (r / 2) (2 * (r / 2)) h refl, mul-le-mul-right {m = 2 * (r / 2)} {n = r} (2 ^ h) (omega arith)) in
     record {
       over-a = parent (c .over-a);
       over-b = parent (c .over-b);
@@ -186,8 +186,8 @@ climb-on {t} {a} {b} {l} {r} {h} {k} last unmet x y c =
       right = min (rightKey t r h) (c .right);
       left-rank = omega arith;
       right-rank = lower-right (rightKey t r h) (c .right) (h + 1 - 1) (omega arith) (omega arith);
-      on-left = join a b (c .left) (leftKey t l h) from more (omega arith) (c .on-left) (pass-left t (c .over-a) (c .over-b) last apart x);
-      on-right = join a b (rightKey t r h) (c .right) fewer (c .over-b .first) (omega arith) (pass-right t (c .over-a) (c .over-b) last apart y) (c .on-right);
+      on-left = join a b (c .left) (leftKey t l h) from (widens-left l h) (omega arith) (c .on-left) (pass-left t (c .over-a) (c .over-b) last apart x);
+      on-right = join a b (rightKey t r h) (c .right) (widens-right r h) (c .over-b .first) (omega arith) (pass-right t (c .over-a) (c .over-b) last apart y) (c .on-right);
       bound = le-trans (min-le-left k _) (c .bound);
       lower = lower-both k (c .left) (c .right) (leftKey t l h) (rightKey t r h) (c .lower);
     }
@@ -202,5 +202,6 @@ climb-ends {t} {a} {b} {l} {r} {h} {k} last met c =
     let from : 257 + a ≤ (l + 1) * 2 ^ h = omega (arith, c .over-a .last) in
     let upto : (l + 1) * 2 ^ h ≤ 256 + b = subst (λ (w : ℕ). w * 2 ^ h ≤ 256 + b) next (c .over-b .first) in
     let right = subst (λ (w : ℕ). Lowest t (w * 2 ^ h) (256 + b) (bestOf a b (c .right))) next (c .on-right) in
-    let best = subst⁻¹ (λ (x : ℕ). Lowest t (257 + a) (256 + b) (bestOf a b x)) (c .lower) (join a b (c .left) (c .right) from upto (omega arith) (c .on-left) right) in
+    let both = join a b (c .left) (c .right) from upto (omega arith) (c .on-left) right in
+    let best = subst⁻¹ (λ (x : ℕ). Lowest t (257 + a) (256 + b) (bestOf a b x)) (c .lower) both in
     record { none = λ e. omega (arith, best-low a b k, best .none (omega arith), c .bound); some = λ q. best .some (omega arith) }

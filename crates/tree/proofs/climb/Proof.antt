@@ -1,6 +1,6 @@
 -- `tree::climb` meets its contract. The loop's invariant is `Climbing`; the measure is the right node, which halves.
 -- Assumes nothing.
-use mathlib.Core.Path.{_≡_, ap, subst⁻¹, _∙_}
+use mathlib.Core.Path.{_≡_, subst⁻¹}
 use Prim.Native.Nat.{ℕ, min, _+_, _/_}
 use native.Mathlib.Omega.{arith}
 use Rattle.tree.specs.declared.Best.{Best}
@@ -15,7 +15,7 @@ Inv-loop t a b l₀ r₀ h₀ best₀ l r h best = Climbing t a b l r h best
 abbrev μ-loop : tie.MeasureT-loop
 μ-loop t a b l₀ r₀ h₀ best₀ l r h best = r
 
-inside : (c : tie.In-loop Inv-loop μ-loop) → Inside (c .before .loop .l) (c .before .loop .r) (c .before .loop .h)
+inside : (c : tie.In-loop Inv-loop μ-loop) → Inside (c .before .loop .r) (c .before .loop .h)
 inside c = climb-inside (omega arith) (c .loop-test .taken) (c .before .loop .inv)
 
 add-l : tie.Need-add-l Inv-loop μ-loop

@@ -1,6 +1,6 @@
 -- `tree::over` meets its contract: the leaves' numbers have the same bits from the level that it computes on.
 -- Assumes nothing.
-use Prim.Native.Nat.{_+_, _/_, _^_}
+use Prim.Native.Nat.{_+_, _^_}
 use native.Mathlib.Nat.{div-le-self}
 use native.Mathlib.Omega.{arith}
 use lib.Bits.{bitXor}

@@ -11,7 +11,7 @@ use lib.Pow.{pow-pos, pow-mono}
 use borrow.Author.Tests.{lt-ltb, le-ltb}
 use Rattle.tree.specs.declared.Best.{Best}
 use Rattle.tree.specs.Tree.{at, Within, Under, Between}
-use Rattle.tree.specs.Keys.{keyOf, leftOf, rightOf, bestOf}
+use Rattle.tree.specs.Keys.{rightRank, rightLevel, leftKey, rightKey, leftOf, rightOf, bestOf}
 use Rattle.tree.proofs.Nodes.{below, wider, parent}
 use Rattle.tree.proofs.Beside.{Lowest, alone, join-left, join-right}
 
@@ -43,7 +43,7 @@ pub record Climbing (t : List ℕ) (a b l r h best : ℕ) : Type 0 where
   pub left : ℕ
   pub right : ℕ
   pub left-rank : left % 16 ≤ h - 1
-  pub right-rank : 15 ≤ right % 16 + (h - 1)
+  pub right-rank : rightRank (h - 1) ≤ right % 16
   pub on-left : Lowest t (257 + a) ((l + 1) * 2 ^ h) (bestOf a b left)
   pub on-right : Lowest t (r * 2 ^ h) (256 + b) (bestOf a b right)
   pub bound : best ≤ 1048576
@@ -84,10 +84,10 @@ passed-left a b l h x k u p e =
     let level : k % 16 ≡ h = omega arith in
     best-left a b k (omega arith) ∙ rw (low, level, div-eq-of-lt-le (2 ^ h) (u .first) (u .last))
 
-passed-right : (a b v h x k : ℕ) → Under (v + 1) h b → h ≤ 7 → k ≡ 16 * x + (15 - h) → bestOf a b k ≡ record { low = x; node = v; level = h }
+passed-right : (a b v h x k : ℕ) → Under (v + 1) h b → h ≤ 7 → k ≡ 16 * x + rightRank h → bestOf a b k ≡ record { low = x; node = v; level = h }
 passed-right a b v h x k u p e =
     let low : k / 16 ≡ x = omega arith in
-    let level : 15 - k % 16 ≡ h = omega arith in
+    let level : rightLevel (k % 16) ≡ h = omega arith in
     let node : v + 1 - 1 ≡ v = omega arith in
     best-right a b k (omega arith) ∙ rw (low, level, div-eq-of-lt-le (2 ^ h) (u .first) (u .last), node)
 
@@ -102,36 +102,29 @@ carried {t} {f} {f′} {e} {e′} {b} {b′} p q s w =
 out : {t : List ℕ} {f e : ℕ} (a b k : ℕ) → e ≡ f → 1048576 ≤ k → Lowest t f e (bestOf a b k)
 out a b k p l = record { none = λ _. omega (arith, best-low a b k); some = λ s. absurd (omega arith) }
 
--- the keys at node l, which stands over a, and at node r, which stands over b
-abbrev pub leftKey : List ℕ → ℕ → ℕ → ℕ
-leftKey t l h = keyOf t (l + 1 - l % 2) (l % 2) h
-
-abbrev pub rightKey : List ℕ → ℕ → ℕ → ℕ
-rightKey t r h = keyOf t (r - r % 2) (1 - r % 2) (15 - h)
-
 -- where the two have not met, the next level is in the tree too
 level-below : {b h : ℕ} (l r : ℕ) → Under r h b → b ≤ 255 → l / 2 < r / 2 → h ≤ 7
 level-below l r ub last apart = omega (arith, level-bound (parent ub) last (omega arith))
 
-module _ {a b l r h : ℕ} (t : List ℕ) (ua : Under l h a) (ub : Under r h b) (last : b ≤ 255) (apart : l / 2 < r / 2) where
-  node : (v : ℕ) → l < v → v < r → at t v ≤ 65535 → Lowest t (v * 2 ^ h) ((v + 1) * 2 ^ h) (record { low = at t v; node = v; level = h })
-  node v p q n =
-      alone v h (omega (arith, level-below l r ub last apart)) n (wider (omega arith) (omega arith) (between v ua ub p q))
+module _ {a b l r h : ℕ} {t : List ℕ} (small : (v : ℕ) → at t v ≤ 65535) (ua : Under l h a) (ub : Under r h b) (last : b ≤ 255) (apart : l / 2 < r / 2) where
+  node : (v : ℕ) → l < v → v < r → Lowest t (v * 2 ^ h) ((v + 1) * 2 ^ h) (record { low = at t v; node = v; level = h })
+  node v p q =
+      alone v h (omega (arith, level-below l r ub last apart)) (small v) (wider (omega arith) (omega arith) (between v ua ub p q))
 
-  pass-left : at t (l + 1 - l % 2) ≤ 65535 → Lowest t ((l + 1) * 2 ^ h) ((l / 2 + 1) * 2 ^ (h + 1)) (bestOf a b (leftKey t l h))
-  pass-left n =
+  pass-left : Lowest t ((l + 1) * 2 ^ h) ((l / 2 + 1) * 2 ^ (h + 1)) (bestOf a b (leftKey t l h))
+  pass-left =
       ⊎-elim
       (λ (p : l % 2 < 1).
       let even : l + 1 - l % 2 ≡ l + 1 = omega arith in
       let same : at t (l + 1 - l % 2) ≡ at t (l + 1) = ap (at t) even in
       carried refl (doubled (l / 2 + 1) (l + 1 + 1) h (omega arith))
       (passed-left a b l h (at t (l + 1)) (leftKey t l h) ua (level-below l r ub last apart) (omega arith))
-      (node (l + 1) (omega arith) (omega arith) (omega arith)))
+      (node (l + 1) (omega arith) (omega arith)))
       (λ (p : 1 ≤ l % 2). out a b (leftKey t l h) (doubled (l / 2 + 1) (l + 1) h (omega arith)) (omega arith))
       (below (l % 2) 1)
 
-  pass-right : at t (r - r % 2) ≤ 65535 → Lowest t (r / 2 * 2 ^ (h + 1)) (r * 2 ^ h) (bestOf a b (rightKey t r h))
-  pass-right n =
+  pass-right : Lowest t (r / 2 * 2 ^ (h + 1)) (r * 2 ^ h) (bestOf a b (rightKey t r h))
+  pass-right =
       ⊎-elim
       (λ (p : r % 2 < 1). out a b (rightKey t r h) (sym (doubled (r / 2) r h (omega arith))) (omega arith))
       (λ (p : 1 ≤ r % 2).
@@ -140,7 +133,7 @@ module _ {a b l r h : ℕ} (t : List ℕ) (ua : Under l h a) (ub : Under r h b) 
       let next : r ≡ r - 1 + 1 = omega arith in
       carried (doubled (r / 2) (r - 1) h (omega arith)) (ap (λ (w : ℕ). w * 2 ^ h) next)
       (passed-right a b (r - 1) h (at t (r - 1)) (rightKey t r h) (subst (λ (w : ℕ). Under w h b) next ub) (level-below l r ub last apart) (omega arith))
-      (node (r - 1) (omega arith) (omega arith) (omega arith)))
+      (node (r - 1) (omega arith) (omega arith)))
       (below (r % 2) 1)
 
 -- the two stay in the tree
@@ -163,20 +156,29 @@ widens-left l h = rw (doubled (l / 2 + 1) (2 * (l / 2 + 1)) h refl) (mul-le-mul-
 widens-right : (r h : ℕ) → r / 2 * 2 ^ (h + 1) ≤ r * 2 ^ h
 widens-right r h = rw (doubled (r / 2) (2 * (r / 2)) h refl) (mul-le-mul-right (2 ^ h) (omega arith))
 
-lower-right : (x y h : ℕ) → 15 ≤ x % 16 + h → 15 ≤ y % 16 + h → 15 ≤ min x y % 16 + h
+key-rank : (x k : ℕ) → k < 16 → (16 * x + k) % 16 ≡ k
+key-rank x k p = omega arith
+
+-- from b, what is passed later has the smaller rank
+later : (h k : ℕ) → h ≤ 7 → rightRank (h - 1) ≤ k → rightRank h ≤ k
+later h k p q = omega arith
+
+lower-right : (x y h : ℕ) → h ≤ x % 16 → h ≤ y % 16 → h ≤ min x y % 16
 lower-right x y h p q = omega arith
 
 lower-both : (k l r x y : ℕ) → k ≡ min l r → min k (min x y) ≡ min (min l x) (min y r)
 lower-both k l r x y e = omega arith
 
-pub climb-on : {t : List ℕ} {a b l r h k : ℕ} → b ≤ 255 → (l / 2 ≡ r / 2 → ⊥) → at t (l + 1 - l % 2) ≤ 65535 → at t (r - r % 2) ≤ 65535
+climb-next : {t : List ℕ} {a b l r h k : ℕ} → b ≤ 255 → ((v : ℕ) → at t v ≤ 65535) → (l / 2 ≡ r / 2 → ⊥)
     → Climbing t a b l r h k → Climbing t a b (l / 2) (r / 2) (h + 1) (min k (min (leftKey t l h) (rightKey t r h)))
-climb-on {t} {a} {b} {l} {r} {h} {k} last unmet x y c =
+climb-next {t} {a} {b} {l} {r} {h} {k} last small unmet c =
     let p = c .apart in
     let apart : l / 2 < r / 2 = omega arith in
     let level = level-below l r (c .over-b) last apart in
     let i = c .left-rank in
-    let j = c .right-rank in
+    let rank : rightKey t r h % 16 ≡ rightRank h = key-rank _ (rightRank h) (omega arith) in
+    let older : rightRank h ≤ c .right % 16 = later h (c .right % 16) level (c .right-rank) in
+    let up : h + 1 - 1 ≡ h = omega arith in
     let from : 257 + a ≤ (l + 1) * 2 ^ h = omega (arith, c .over-a .last) in
     record {
       over-a = parent (c .over-a);
@@ -185,12 +187,17 @@ climb-on {t} {a} {b} {l} {r} {h} {k} last unmet x y c =
       left = min (c .left) (leftKey t l h);
       right = min (rightKey t r h) (c .right);
       left-rank = omega arith;
-      right-rank = lower-right (rightKey t r h) (c .right) (h + 1 - 1) (omega arith) (omega arith);
-      on-left = join a b (c .left) (leftKey t l h) from (widens-left l h) (omega arith) (c .on-left) (pass-left t (c .over-a) (c .over-b) last apart x);
-      on-right = join a b (rightKey t r h) (c .right) (widens-right r h) (c .over-b .first) (omega arith) (pass-right t (c .over-a) (c .over-b) last apart y) (c .on-right);
+      right-rank = rw up (lower-right (rightKey t r h) (c .right) (rightRank h) (omega arith) older);
+      on-left = join a b (c .left) (leftKey t l h) from (widens-left l h) (omega arith) (c .on-left) (pass-left small (c .over-a) (c .over-b) last apart);
+      on-right = join a b (rightKey t r h) (c .right) (widens-right r h) (c .over-b .first) (omega arith) (pass-right small (c .over-a) (c .over-b) last apart) (c .on-right);
       bound = le-trans (min-le-left k _) (c .bound);
       lower = lower-both k (c .left) (c .right) (leftKey t l h) (rightKey t r h) (c .lower);
     }
+
+pub climb-on : {t : List ℕ} {a b l r h k j : ℕ} → b ≤ 255 → ((v : ℕ) → at t v ≤ 65535) → (l / 2 ≡ r / 2 → ⊥)
+    → j ≡ min k (min (leftKey t l h) (rightKey t r h)) → Climbing t a b l r h k → Climbing t a b (l / 2) (r / 2) (h + 1) j
+climb-on {t} {a} {b} {l} {r} {h} last small unmet is c =
+    subst⁻¹ (Climbing t a b (l / 2) (r / 2) (h + 1)) is (climb-next last small unmet c)
 
 pub climb-ends : {t : List ℕ} {a b l r h k : ℕ} → b ≤ 255 → l / 2 ≡ r / 2 → Climbing t a b l r h k → Between t a b (bestOf a b k)
 climb-ends {t} {a} {b} {l} {r} {h} {k} last met c =

@@ -81,8 +81,8 @@ descend-leaf t v p =
 
 -- the half to which it goes
 pub data Half (t : List ℕ) (v w : ℕ) : Type 0 where
-  left : w ≡ 2 * v → at t (2 * v) ≤ at t v → Half t v w
-  right : w ≡ 2 * v + 1 → at t v < at t (2 * v) → Half t v w
+  left : w ≡ 2 * v → at t (2 * v) ≤ at t (2 * v + 1) → Half t v w
+  right : w ≡ 2 * v + 1 → at t (2 * v + 1) < at t (2 * v) → Half t v w
 
 pub half-within : {t : List ℕ} {v w h k f e : ℕ} → Half t v w → k ≡ suc h → Within v k f e → Within w h f e
 half-within {t} {v} {w} {h} {k} {f} {e} (left is _) s i =
@@ -90,7 +90,7 @@ half-within {t} {v} {w} {h} {k} {f} {e} (left is _) s i =
 half-within {t} {v} {w} {h} {k} {f} {e} (right is _) s i =
     subst⁻¹ (λ (x : ℕ). Within x h f e) is (halves-within v h (subst (λ (x : ℕ). Within v x f e) s i) .1)
 
--- the left half has the node's number where it has no greater one; else the right half has it, and no leaf under the left half
+-- the left half has the node's number where its own is not the greater; else the right half has it, and no leaf under the left half
 half-descended : {t : List ℕ} {v w r : ℕ} (h : ℕ) → Half t v w → Within v (suc h) 256 512 → Descended t w h r → Descended t v (suc h) r
 half-descended {t} {v} {w} {r} h (left is low) i down =
     let d : Descended t (2 * v) h r = subst (λ (x : ℕ). Descended t x h r) is down in

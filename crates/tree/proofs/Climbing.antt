@@ -22,11 +22,15 @@ pub best-right : (a b k : ℕ) → 8 ≤ k % 16 → bestOf a b k ≡ rightOf b k
 best-right a b k p = rw (le-ltb (k % 16) 8 p)
 
 best-low : (a b k : ℕ) → bestOf a b k .low ≡ k / 16
-best-low a b k = ⊎-elim (λ p. ap (λ (x : Best). x .low) (best-left a b k p)) (λ p. ap (λ (x : Best). x .low) (best-right a b k p)) (below (k % 16) 8)
+best-low a b k =
+    ⊎-elim
+    (λ p. ap (λ (x : Best). x .low) (best-left a b k p))
+    (λ p. ap (λ (x : Best). x .low) (best-right a b k p))
+    (below (k % 16) 8)
 
 -- the smaller of two keys, the left one's rank not the greater
-join : {t : List ℕ} (a b k j : ℕ) {f m e : ℕ} → f ≤ m → m ≤ e → k % 16 ≤ j % 16 → Lowest t f m (bestOf a b k) → Lowest t m e (bestOf a b j)
-    → Lowest t f e (bestOf a b (min k j))
+join : {t : List ℕ} (a b k j : ℕ) {f m e : ℕ} → f ≤ m → m ≤ e → k % 16 ≤ j % 16
+    → Lowest t f m (bestOf a b k) → Lowest t m e (bestOf a b j) → Lowest t f e (bestOf a b (min k j))
 join {t} a b k j {f} {m} {e} fm me rank left right =
     let l = best-low a b k in
     let r = best-low a b j in
@@ -49,6 +53,7 @@ pub record Climbing (t : List ℕ) (a b l r h best : ℕ) : Type 0 where
   pub bound : best ≤ 1048576
   pub lower : best ≡ min left right
 
+-- at the leaves nothing is passed
 pub climb-starts : (t : List ℕ) (a b : ℕ) → a < b → Climbing t a b (256 + a) (256 + b) 0 1048576
 climb-starts t a b p =
     record {
@@ -91,6 +96,7 @@ passed-right a b v h x k u p e =
     let node : v + 1 - 1 ≡ v = omega arith in
     best-right a b k (omega arith) ∙ rw (low, level, div-eq-of-lt-le (2 ^ h) (u .first) (u .last), node)
 
+-- a node's first leaf is that of its left half, one level fewer
 doubled : (q w h : ℕ) → 2 * q ≡ w → q * 2 ^ (h + 1) ≡ w * 2 ^ h
 doubled q w h e = ap (λ (k : ℕ). q * 2 ^ k) (add-one h) ∙ rw (← e, pow-succ' 2 h) (omega arith)
 
@@ -106,7 +112,9 @@ out a b k p l = record { none = λ _. omega (arith, best-low a b k); some = λ s
 level-below : {b h : ℕ} (l r : ℕ) → Under r h b → b ≤ 255 → l / 2 < r / 2 → h ≤ 7
 level-below l r ub last apart = omega (arith, level-bound (parent ub) last (omega arith))
 
-module _ {a b l r h : ℕ} {t : List ℕ} (small : (v : ℕ) → at t v ≤ 65535) (ua : Under l h a) (ub : Under r h b) (last : b ≤ 255) (apart : l / 2 < r / 2) where
+-- what is passed at level h
+module _ {a b l r h : ℕ} {t : List ℕ} (small : (v : ℕ) → at t v ≤ 65535) (ua : Under l h a) (ub : Under r h b)
+    (last : b ≤ 255) (apart : l / 2 < r / 2) where
   node : (v : ℕ) → l < v → v < r → Lowest t (v * 2 ^ h) ((v + 1) * 2 ^ h) (record { low = at t v; node = v; level = h })
   node v p q =
       alone v h (omega (arith, level-below l r ub last apart)) (small v) (wider (omega arith) (omega arith) (between v ua ub p q))
@@ -131,8 +139,9 @@ module _ {a b l r h : ℕ} {t : List ℕ} (small : (v : ℕ) → at t v ≤ 6553
       let odd : r - r % 2 ≡ r - 1 = omega arith in
       let same : at t (r - r % 2) ≡ at t (r - 1) = ap (at t) odd in
       let next : r ≡ r - 1 + 1 = omega arith in
+      let under = subst (λ (w : ℕ). Under w h b) next ub in
       carried (doubled (r / 2) (r - 1) h (omega arith)) (ap (λ (w : ℕ). w * 2 ^ h) next)
-      (passed-right a b (r - 1) h (at t (r - 1)) (rightKey t r h) (subst (λ (w : ℕ). Under w h b) next ub) (level-below l r ub last apart) (omega arith))
+      (passed-right a b (r - 1) h (at t (r - 1)) (rightKey t r h) under (level-below l r ub last apart) (omega arith))
       (node (r - 1) (omega arith) (omega arith)))
       (below (r % 2) 1)
 
@@ -169,6 +178,7 @@ lower-right x y h p q = omega arith
 lower-both : (k l r x y : ℕ) → k ≡ min l r → min k (min x y) ≡ min (min l x) (min y r)
 lower-both k l r x y e = omega arith
 
+-- one level up
 climb-next : {t : List ℕ} {a b l r h k : ℕ} → b ≤ 255 → ((v : ℕ) → at t v ≤ 65535) → (l / 2 ≡ r / 2 → ⊥)
     → Climbing t a b l r h k → Climbing t a b (l / 2) (r / 2) (h + 1) (min k (min (leftKey t l h) (rightKey t r h)))
 climb-next {t} {a} {b} {l} {r} {h} {k} last small unmet c =
@@ -188,8 +198,12 @@ climb-next {t} {a} {b} {l} {r} {h} {k} last small unmet c =
       right = min (rightKey t r h) (c .right);
       left-rank = omega arith;
       right-rank = rw up (lower-right (rightKey t r h) (c .right) (rightRank h) (omega arith) older);
-      on-left = join a b (c .left) (leftKey t l h) from (widens-left l h) (omega arith) (c .on-left) (pass-left small (c .over-a) (c .over-b) last apart);
-      on-right = join a b (rightKey t r h) (c .right) (widens-right r h) (c .over-b .first) (omega arith) (pass-right small (c .over-a) (c .over-b) last apart) (c .on-right);
+      on-left =
+          join a b (c .left) (leftKey t l h) from (widens-left l h) (omega arith) (c .on-left)
+          (pass-left small (c .over-a) (c .over-b) last apart);
+      on-right =
+          join a b (rightKey t r h) (c .right) (widens-right r h) (c .over-b .first) (omega arith)
+          (pass-right small (c .over-a) (c .over-b) last apart) (c .on-right);
       bound = le-trans (min-le-left k _) (c .bound);
       lower = lower-both k (c .left) (c .right) (leftKey t l h) (rightKey t r h) (c .lower);
     }
@@ -199,6 +213,7 @@ pub climb-on : {t : List ℕ} {a b l r h k j : ℕ} → b ≤ 255 → ((v : ℕ)
 climb-on {t} {a} {b} {l} {r} {h} last small unmet is c =
     subst⁻¹ (Climbing t a b (l / 2) (r / 2) (h + 1)) is (climb-next last small unmet c)
 
+-- where they have met the two sides are the whole
 pub climb-ends : {t : List ℕ} {a b l r h k : ℕ} → b ≤ 255 → l / 2 ≡ r / 2 → Climbing t a b l r h k → Between t a b (bestOf a b k)
 climb-ends {t} {a} {b} {l} {r} {h} {k} last met c =
     let p = c .apart in

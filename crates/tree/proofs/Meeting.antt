@@ -53,12 +53,21 @@ in-tree {v} {h} {x} u p l =
     let levels : 8 - h + h ≡ 8 = omega arith in
     let e : q * 2 ^ h ≡ 256 = sym (pow-add 2 (8 - h) h) ∙ ap (λ (k : ℕ). 2 ^ k) levels in
     record {
-      first = ⊎-elim (λ s. absurd (omega (arith, mul-le-mul-right (2 ^ h) s, u .last))) (λ s. omega (arith, mul-le-mul-right (2 ^ h) s)) (below v q);
-      last = ⊎-elim (λ s. omega (arith, mul-le-mul-right (2 ^ h) s)) (λ s. absurd (omega (arith, mul-le-mul-right (2 ^ h) s, u .first))) (below v (2 * q));
+      first =
+          ⊎-elim
+          (λ s. absurd (omega (arith, mul-le-mul-right (2 ^ h) s, u .last)))
+          (λ s. omega (arith, mul-le-mul-right (2 ^ h) s))
+          (below v q);
+      last =
+          ⊎-elim
+          (λ s. omega (arith, mul-le-mul-right (2 ^ h) s))
+          (λ s. absurd (omega (arith, mul-le-mul-right (2 ^ h) s, u .first)))
+          (below v (2 * q));
     }
 
 -- the number of the node where they meet
-pub over-both : {t : List ℕ} {r k : ℕ} (a b : ℕ) → a ≤ 255 → b ≤ 255 → Meets a b k → r ≡ at t ((256 + a) / 2 ^ k) → r ≤ 65535 → Over t a b r
+pub over-both : {t : List ℕ} {r k : ℕ} (a b : ℕ) → a ≤ 255 → b ≤ 255 → Meets a b k → r ≡ at t ((256 + a) / 2 ^ k) → r ≤ 65535
+    → Over t a b r
 over-both {t} {r} {k} a b p q m e n =
     let v = (256 + a) / 2 ^ k in
     let ua = above k a in
@@ -72,5 +81,7 @@ over-both {t} {r} {k} a b p q m e n =
       over-b = ub;
       number = e;
       bound = n;
-      lowest = λ H x f l. omega (arith, node-lowest H k v {x = x} w (record { first = omega (arith, ua .first); last = omega (arith, ub .last) }));
+      lowest = λ H x f l.
+          let u : Under v k x = record { first = omega (arith, ua .first); last = omega (arith, ub .last) } in
+          omega (arith, node-lowest H k v w u);
     }

@@ -120,7 +120,8 @@ pub fn climb(t: &[u16], a: usize, b: usize) -> Best
 }
 
 // The number of the lowest node that stands over both a and b: no block from a to b has a smaller
-// one. The node is what the two leaves' numbers have in common, from the highest bit down.
+// one. The node's number is what the leaves 256 + a and 256 + b have in common, from the highest bit
+// down.
 pub fn over(t: &[u16], a: usize, b: usize) -> usize
     requires { ⌜ (896 ≤ length (now t)) × (a ≤ 255) × (b ≤ 255) ⌝ }
     ensures { λ r. ⌜ Over (now (t .entry)) a b r ⌝ }

@@ -1,7 +1,7 @@
 -- `tree::passed` meets its contract: a rank below 8 is a level on the left, any other 15 less one on the right.
 -- Assumes nothing.
 use mathlib.Core.Path.{sym}
-use Prim.Native.Nat.{_+_, _-_, _%_, _^_, _≤_}
+use Prim.Native.Nat.{_+_, _%_, _^_, _≤_}
 use native.Mathlib.Nat.{div-le-self, le-div-iff-mul-le}
 use native.Mathlib.Omega.{arith}
 use lib.Pow.{pow-pos, pow-mono}

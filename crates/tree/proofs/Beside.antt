@@ -1,6 +1,6 @@
 -- Nodes that stand side by side: one alone, and the better of two parts, the left one where their numbers are equal.
 -- Assumes nothing.
-use mathlib.Core.Path.{_≡_, refl}
+use mathlib.Core.Path.{refl}
 use mathlib.Core.Logic.{⊎-elim}
 use Prim.Native.Nat.{ℕ, _+_, _*_, _^_, _≤_, _<_}
 use native.Mathlib.Nat.{le-refl, le-trans, le-of-lt, lt-of-lt-of-le}
@@ -9,7 +9,7 @@ use mathlib.Core.List.{List}
 use lib.Pow.{pow-pos}
 use Rattle.tree.specs.declared.Best.{Best}
 use Rattle.tree.specs.Tree.{at, leaf, Halves, Within, Held}
-use Rattle.tree.proofs.Nodes.{below, node-lowest}
+use Rattle.tree.proofs.Nodes.{below, wider, node-lowest}
 
 -- among the leaves from f up to before e, of which there may be none
 pub record Lowest (t : List ℕ) (f e : ℕ) (b : Best) : Type 0 where
@@ -53,9 +53,8 @@ module _ {t : List ℕ} {f m e : ℕ} {L R : Best} (fm : f ≤ m) (me : m ≤ e)
       held : f < m → Held t f e L
       held a =
           let l = left .some a in
-          let i = l .within in
           record {
-            within = record { first = i .first; last = le-trans (i .last) me };
+            within = wider (le-refl f) me (l .within);
             level = l .level;
             number = l .number;
             bound = l .bound;
@@ -73,12 +72,15 @@ module _ {t : List ℕ} {f m e : ℕ} {L R : Best} (fm : f ≤ m) (me : m ≤ e)
       held : m < e → Held t f e R
       held a =
           let r = right .some a in
-          let i = r .within in
           record {
-            within = record { first = le-trans fm (i .first); last = i .last };
+            within = wider fm (le-refl e) (r .within);
             level = r .level;
             number = r .number;
             bound = r .bound;
             lowest = λ H x. both H (R .low) x (le-of-lt p) (le-refl _);
-            leftmost = λ H x from upto. ⊎-elim (λ q. lt-of-lt-of-le p (no-lower left H x from q)) (λ q. r .leftmost H x q upto) (below (256 + x) m);
+            leftmost = λ H x from upto.
+                ⊎-elim
+                (λ q. lt-of-lt-of-le p (no-lower left H x from q))
+                (λ q. r .leftmost H x q upto)
+                (below (256 + x) m);
           }

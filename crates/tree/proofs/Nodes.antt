@@ -18,15 +18,18 @@ below x y = by (decLt x y)
     by (yes p) = inl p
     by (no p) = inr (omega arith)
 
+pub wider : {v h f f′ e e′ : ℕ} → f′ ≤ f → e ≤ e′ → Within v h f e → Within v h f′ e′
+wider p q w = record { first = le-trans p (w .first); last = le-trans (w .last) q }
+
 -- a node of the tree is not above the root, nor past the last leaf
-pub node-first : (v h : ℕ) {f e : ℕ} → Within v h f e → 0 < f → 1 ≤ v
+node-first : (v h : ℕ) {f e : ℕ} → Within v h f e → 0 < f → 1 ≤ v
 node-first zero h w p = let z = zero-mul (2 ^ h) in omega (arith, w .first)
 node-first (suc v) h w p = omega arith
 
 pub node-last : (v h : ℕ) {f e : ℕ} → Within v h f e → v < e
 node-last v h w = omega (arith, mul-le-mul-left (v + 1) (pow-pos h), w .last)
 
--- the leaves under a node's two halves are those under the node
+-- the leaves under a node's two halves, one level fewer, are those under the node
 pub halves-within : (v h : ℕ) {f e : ℕ} → Within v (suc h) f e → Within (2 * v) h f e × Within (2 * v + 1) h f e
 halves-within v h w =
     let f = rw (pow-succ' 2 h) at (w .first) in
@@ -46,7 +49,7 @@ under-half v h x u =
     (λ there. inr (record { first = there; last = omega arith }))
     (below (256 + x) ((2 * v + 1) * 2 ^ h))
 
--- the node above, one level more
+-- a node over a block has the block under its parent too, one level more
 parity : (v : ℕ) → (v ≡ 2 * (v / 2)) ⊎ (v ≡ 2 * (v / 2) + 1)
 parity v = ⊎-elim (λ p. inl (omega arith)) (λ p. inr (omega arith)) (below (v % 2) 1)
 
@@ -78,8 +81,8 @@ descend-leaf t v p =
 
 -- the half to which it goes
 pub data Half (t : List ℕ) (v w : ℕ) : Type 0 where
-  left : w ≡ 2 * v → at t (2 * v) ≤ at t v → Half t v w
-  right : w ≡ 2 * v + 1 → at t v < at t (2 * v) → Half t v w
+  left : w ≡ 2 * v → at t (2 * v) ≤ at t (2 * v + 1) → Half t v w
+  right : w ≡ 2 * v + 1 → at t (2 * v + 1) < at t (2 * v) → Half t v w
 
 pub half-within : {t : List ℕ} {v w h k f e : ℕ} → Half t v w → k ≡ suc h → Within v k f e → Within w h f e
 half-within {t} {v} {w} {h} {k} {f} {e} (left is _) s i =
@@ -87,7 +90,7 @@ half-within {t} {v} {w} {h} {k} {f} {e} (left is _) s i =
 half-within {t} {v} {w} {h} {k} {f} {e} (right is _) s i =
     subst⁻¹ (λ (x : ℕ). Within x h f e) is (halves-within v h (subst (λ (x : ℕ). Within v x f e) s i) .1)
 
--- the left half has the node's number where it has no greater one; else the right half has it, and no leaf under the left half
+-- the left half has the node's number where its own is not the greater; else the right half has it, and no leaf under the left half
 half-descended : {t : List ℕ} {v w r : ℕ} (h : ℕ) → Half t v w → Within v (suc h) 256 512 → Descended t w h r → Descended t v (suc h) r
 half-descended {t} {v} {w} {r} h (left is low) i down =
     let d : Descended t (2 * v) h r = subst (λ (x : ℕ). Descended t x h r) is down in

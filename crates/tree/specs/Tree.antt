@@ -46,3 +46,14 @@ pub record Held (t : List ℕ) (f e : ℕ) (b : Best) : Type 0 where
 pub record Between (t : List ℕ) (a b : ℕ) (best : Best) : Type 0 where
   pub none : b ≡ a + 1 → best .low ≡ 65536
   pub some : a + 1 < b → Held t (257 + a) (256 + b) best
+
+-- r is the number of a node that stands over both a and b
+pub record Over (t : List ℕ) (a b r : ℕ) : Type 0 where
+  pub node : ℕ
+  pub level : ℕ
+  pub within : Within node level 256 512
+  pub over-a : Under node level a
+  pub over-b : Under node level b
+  pub number : r ≡ at t node
+  pub bound : r ≤ 65535
+  pub lowest : Halves t → (x : ℕ) → a ≤ x → x ≤ b → r ≤ leaf t x

@@ -5,8 +5,8 @@
 ghost use mathlib.Core.Path.{_≡_};
 ghost use Prim.Native.Nat.{min, _+_, _*_, _≤_, _<_};
 ghost use lib.ListN.{length};
-ghost use Rattle.tree.specs.Tree.{at, Within, Descended, Between};
-ghost use Rattle.tree.specs.Keys.{keyOf, bestOf};
+ghost use Rattle.tree.specs.Tree.{at, Within, Descended, Between, Over};
+ghost use Rattle.tree.specs.Keys.{keyOf, leftKey, rightKey, bestOf};
 
 // The number of node v.
 fn number(t: &[u16], v: usize) -> usize
@@ -27,10 +27,11 @@ pub fn descend(t: &[u16], v: usize, level: usize) -> usize
         return v - 256;
     }
     let left = 2 * v;
-    let half = if number(t, left) <= number(t, v) {
+    let right = left + 1;
+    let half = if number(t, left) <= number(t, right) {
         left
     } else {
-        left + 1
+        right
     };
     descend(t, half, level - 1)
 }
@@ -43,12 +44,30 @@ pub struct Best {
 }
 
 // A node's key: the smaller of two has the smaller number and, where these are equal, the smaller rank.
-// Where out is 1 the key is above that of any node. So the climb below needs no branch.
+// Where out is 1 the key is above that of any node. With keys the climb has no branch but its loop's.
 fn key(t: &[u16], v: usize, out: usize, rank: usize) -> usize
     requires { ⌜ (896 ≤ length (now t)) × (v < 512) × (out ≤ 1) × (rank < 16) ⌝ }
-    ensures { λ r. ⌜ (r ≡ keyOf (now (t .entry)) v out rank) × (at (now (t .entry)) v ≤ 65535) ⌝ }
+    ensures { λ r. ⌜ r ≡ keyOf (now (t .entry)) v out rank ⌝ }
 {
     16 * (number(t, v) + 65536 * out) + rank
+}
+
+// What the climb passes at node l over block a, h levels up: the right neighbour. It is out where it
+// has another parent; that parent, or one above, is passed later.
+fn left_key(t: &[u16], l: usize, h: usize) -> usize
+    requires { ⌜ (896 ≤ length (now t)) × (l < 511) × (h ≤ 7) ⌝ }
+    ensures { λ k. ⌜ k ≡ leftKey (now (t .entry)) l h ⌝ }
+{
+    key(t, l + 1 - l % 2, l % 2, h)
+}
+
+// The same at node r over block b: the left neighbour. Here what is passed later stands further left,
+// so its rank is smaller.
+fn right_key(t: &[u16], r: usize, h: usize) -> usize
+    requires { ⌜ (896 ≤ length (now t)) × (r < 512) × (h ≤ 7) ⌝ }
+    ensures { λ k. ⌜ k ≡ rightKey (now (t .entry)) r h ⌝ }
+{
+    key(t, r - r % 2, 1 - r % 2, 15 - h)
 }
 
 fn lower(x: usize, y: usize) -> usize
@@ -57,8 +76,8 @@ fn lower(x: usize, y: usize) -> usize
     if x <= y { x } else { y }
 }
 
-// The node whose key this is, passed by the climb from a or from b.
-fn found(best: usize, a: usize, b: usize) -> Best
+// The node with this key, passed on the way up from a or from b.
+fn passed(best: usize, a: usize, b: usize) -> Best
     requires { ⌜ (a ≤ 255) × (b ≤ 255) ⌝ }
     ensures { λ r. ⌜ r ≡ bestOf a b best ⌝ }
 {
@@ -81,9 +100,8 @@ fn found(best: usize, a: usize, b: usize) -> Best
 }
 
 // The node with the smallest number among those that together cover the blocks between a and b, both
-// left out; 65,536 where there is none. The two leaves climb to where they meet. What lies inside of a
-// node and under the same parent is passed: from a its right neighbour, from b its left one. The nodes
-// passed from a stand left to right, then those from b, the last passed first: so go the ranks.
+// left out; 65,536 where there is none. The two leaves climb to where they meet, and what they pass on
+// the inner side covers those blocks. At most eight levels, two numbers read at each.
 pub fn climb(t: &[u16], a: usize, b: usize) -> Best
     requires { ⌜ (896 ≤ length (now t)) × (a < b) × (b ≤ 255) ⌝ }
     ensures { λ r. ⌜ Between (now (t .entry)) a b r ⌝ }
@@ -91,14 +109,24 @@ pub fn climb(t: &[u16], a: usize, b: usize) -> Best
     let mut l = 256 + a;
     let mut r = 256 + b;
     let mut h = 0;
-    let mut best = 1048576;
+    let mut best = 16 * 65536;
     while l / 2 != r / 2 {
-        let left = key(t, l + 1 - l % 2, l % 2, h);
-        let right = key(t, r - r % 2, 1 - r % 2, 15 - h);
-        best = lower(best, lower(left, right));
+        best = lower(best, lower(left_key(t, l, h), right_key(t, r, h)));
         l /= 2;
         r /= 2;
         h += 1;
     }
-    found(best, a, b)
+    passed(best, a, b)
+}
+
+// The number of the lowest node that stands over both a and b: no block from a to b has a smaller
+// one. The node's number is what the leaves 256 + a and 256 + b have in common, from the highest bit
+// down.
+pub fn over(t: &[u16], a: usize, b: usize) -> usize
+    requires { ⌜ (896 ≤ length (now t)) × (a ≤ 255) × (b ≤ 255) ⌝ }
+    ensures { λ r. ⌜ Over (now (t .entry)) a b r ⌝ }
+{
+    let l = 256 + a;
+    let level = 64 - u64::leading_zeros((l ^ (256 + b)) as u64);
+    number(t, l >> level)
 }

@@ -47,16 +47,14 @@ module _ (t : ℕ) where
   mul-left : descend-lts.Need-mul-left (number.Asked, number.Learnt, descend-below t, descend.Post) (descend-at t) descend.Post
   mul-left c = omega (arith, inner (c .if1 .left) (c .before .before .pre .1 .1))
 
+  add-right : descend-lts.Need-add-right (number.Asked, number.Learnt, descend-below t, descend.Post) (descend-at t) descend.Post
+  add-right c = omega (arith, inner (c .if1 .left) (c .before .before .pre .1 .1))
+
   number-requires : descend-lts.Need-number-requires (number.Asked, number.Learnt, descend-below t, descend.Post) (descend-at t) descend.Post
   number-requires c κs = omega (arith, inner (c .if1 .left) (c .before .before .pre .1 .1))
 
   number-requires-2 : descend-lts.Need-number-requires-2 (number.Asked, number.Learnt, descend-below t, descend.Post) (descend-at t) descend.Post
   number-requires-2 c κs = omega (arith, inner (c .before .if1 .left) (c .before .before .before .pre .1 .1))
-
-  add-half : descend-lts.Need-add-half (number.Asked, number.Learnt, descend-below t, descend.Post) (descend-at t) descend.Post
-  add-half c =
-      let inside = c .before .before .before in
-      omega (arith, inner (inside .if1 .left) (inside .before .before .pre .1 .1))
 
   sub-descend : descend-lts.Need-sub-descend (number.Asked, number.Learnt, descend-below t, descend.Post) (descend-at t) descend.Post
   sub-descend c = omega arith
@@ -84,9 +82,9 @@ pub +descend-spec : {M : Type 1} → statement M
     (sub-result t)
     (returns t)
     (mul-left t)
+    (add-right t)
     (number-requires t)
     (number-requires-2 t)
-    (add-half t)
     (sub-descend t)
     (descend-requires t)
     (returns-2 t)

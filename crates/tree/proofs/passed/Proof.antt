@@ -1,14 +1,15 @@
--- `tree::found` meets its contract: a rank below 8 is a level on the left, any other 15 less one on the right.
+-- `tree::passed` meets its contract: a rank below 8 is a level on the left, any other 15 less one on the right.
 -- Assumes nothing.
 use mathlib.Core.Path.{sym}
-use Prim.Native.Nat.{_+_, _-_, _*_, _%_, _^_, _≤_}
+use Prim.Native.Nat.{_+_, _%_, _^_, _≤_}
 use native.Mathlib.Nat.{div-le-self, le-div-iff-mul-le}
 use native.Mathlib.Omega.{arith}
 use lib.Pow.{pow-pos, pow-mono}
 use borrow.Author.Needs.{needs}
+use Rattle.tree.specs.Keys.{rightLevel}
 use Rattle.tree.proofs.Climbing.{best-left, best-right}
-use Rattle.tree.proofs.found.Statement.{statement}
-use Rattle.tree.proofs.found.Tie as tie
+use Rattle.tree.proofs.passed.Statement.{statement}
+use Rattle.tree.proofs.passed.Tie as tie
 
 add-t9 : tie.Need-add-t9
 add-t9 c = search needs
@@ -30,7 +31,7 @@ shr-t13 c = search needs
 
 sub-t14 : tie.Need-sub-t14
 sub-t14 c =
-    let level = 15 - c .before .args .best % 16 in
+    let level = rightLevel (c .before .args .best % 16) in
     let low : level ≤ 8 = omega arith in
     le-div-iff-mul-le (pow-pos level) .1 (omega (arith, pow-mono low))
 
@@ -40,6 +41,6 @@ returns c = sym (best-left (c .before .args .a) (c .before .args .b) (c .before 
 returns-2 : tie.Need-returns-2
 returns-2 c = sym (best-right (c .before .args .a) (c .before .args .b) (c .before .args .best) (c .if1 .left))
 
-pub found-spec : {M : Type 1} → statement M
-found-spec =
+pub passed-spec : {M : Type 1} → statement M
+passed-spec =
     tie.close (tie.spec add-t9 shr-t10 add-t11 sub-level add-t12 shr-t13 sub-t14 returns returns-2)

@@ -18,7 +18,7 @@ use Rattle.rules.proofs.Bytes.{lowBits-length}
 use Rattle.scan.specs.declared.Scan.{Scan}
 use Rattle.scan.specs.Scan.{seen, stepOf, scanOf}
 use Rattle.scan.proofs.Laws.{scan-append, scan-least, scan-openings}
-use Rattle.ask.specs.Byte.{begun, Begins}
+use Rattle.ask.specs.Byte.{begun, shorter, Begins}
 
 -- ---- closings before a closing
 
@@ -62,7 +62,7 @@ some-least st p (closing ∷ s) h = scan-least (stepOf st p closing) (suc p) s (
 -- x is what has been read with u openings behind: take them off the excess
 pub record Undone (u : ℕ) (x y : Scan) : Type 0 where
   pub fits : u ≤ x .excess
-  pub same : record { excess = x .excess - u; smallest = x .smallest; place = x .place } ≡ y
+  pub same : shorter x u ≡ y
 
 pub undone : (st : Scan) (p : ℕ) (s : List Paren) (u : ℕ) (x : Scan) → scanOf st p s .smallest ≤ scanOf st p s .excess
     → x ≡ scanOf st p (s ++ replicate u opening) → Undone u x (scanOf st p s)

@@ -48,14 +48,14 @@ some-of k (suc x) (suc n) [] h = refl
 some-of k (suc x) (suc n) (q ∷ w) h = some-of k x n w (omega arith)
 
 -- k bits of byte m from bit x on
-bits-some : (m : ℕ) (bs : List ℕ) (x k : ℕ) → m < length bs → x + k ≤ 8 → take k (drop x (lowBits 8 (getD bs m 0))) ≡ take k (drop (8 * m + x) (allBits bs))
+pub bits-some : (m : ℕ) (bs : List ℕ) (x k : ℕ) → m < length bs → x + k ≤ 8 → take k (drop x (lowBits 8 (getD bs m 0))) ≡ take k (drop (8 * m + x) (allBits bs))
 bits-some m bs x k h l =
     ap (λ (s : List Paren). take k (drop x s)) (bits-byte m bs h)
     ∙ some-of k x 8 (drop (8 * m) (allBits bs)) l
     ∙ ap (take k) (drop-drop x (8 * m) (allBits bs))
 
 -- those behind bit x, up to the byte's end or up to before bit k
-bits-behind : (m : ℕ) (bs : List ℕ) (x : ℕ) → m < length bs → x < 8 → drop (x + 1) (lowBits 8 (getD bs m 0)) ≡ take (7 - x) (drop (8 * m + x + 1) (allBits bs))
+pub bits-behind : (m : ℕ) (bs : List ℕ) (x : ℕ) → m < length bs → x < 8 → drop (x + 1) (lowBits 8 (getD bs m 0)) ≡ take (7 - x) (drop (8 * m + x + 1) (allBits bs))
 bits-behind m bs x h l =
     let b = lowBits 8 (getD bs m 0) in
     let e : 8 * m + (x + 1) ≡ 8 * m + x + 1 = omega arith in
@@ -63,7 +63,7 @@ bits-behind m bs x h l =
     ∙ bits-some m bs (x + 1) (7 - x) h (omega arith)
     ∙ ap (λ (p : ℕ). take (7 - x) (drop p (allBits bs))) e
 
-bits-within : (m : ℕ) (bs : List ℕ) (x k : ℕ) → m < length bs → x < k → k ≤ 8
+pub bits-within : (m : ℕ) (bs : List ℕ) (x k : ℕ) → m < length bs → x < k → k ≤ 8
     → drop (x + 1) (take k (lowBits 8 (getD bs m 0))) ≡ take (k - (x + 1)) (drop (8 * m + x + 1) (allBits bs))
 bits-within m bs x k h l n =
     let b = lowBits 8 (getD bs m 0) in

@@ -1,7 +1,8 @@
 -- The summary's numbers as the way to a closing: what is said for any numbers whatever, and what is right where they are the summary of
 -- the parentheses s.
 use mathlib.Core.Path.{_≡_}
-use Prim.Native.Nat.{ℕ, max, _+_, _-_, _*_, _/_, _≤_, _<_}
+use mathlib.Core.Logic.{_⊎_}
+use Prim.Native.Nat.{ℕ, _+_, _-_, _*_, _/_, _≤_, _<_}
 use mathlib.Core.List.{List}
 use lib.ListN.{length, take, getD}
 use Rattle.rules.specs.Shape.{Paren}
@@ -20,16 +21,15 @@ pub record Own (t : List ℕ) (s : List Paren) (n : ℕ) : Type 0 where
 -- its own end there are more
 pub record Stops (t : List ℕ) (i from to r : ℕ) : Type 0 where
   pub low : from ≤ r
-  pub high : r ≤ max from to
+  pub high : r ≤ to
   pub passed : from < r → 256 * r ≤ 2 * i + getD t (r - 1) 0
   pub ahead : r < to → 2 * i + getD t r 0 < 256 * (r + 1)
 
--- the block of closing number 256(q + 1) where the summary names one, else the last there is
-pub record Last (t : List ℕ) (blocks q r : ℕ) : Type 0 where
+-- a block from first on: the one that slot 769 + q names, or the last there is
+pub record Last (t : List ℕ) (blocks first q r : ℕ) : Type 0 where
+  pub low : first ≤ r
   pub within : r < blocks
-  pub named : q < 127 → getD t (769 + q) 0 < blocks → r ≡ getD t (769 + q) 0
-  pub other : blocks ≤ getD t (769 + q) 0 → r ≡ blocks - 1
-  pub end : 127 ≤ q → r ≡ blocks - 1
+  pub named : ((q < 127) × (r ≡ getD t (769 + q) 0)) ⊎ (r ≡ blocks - 1)
 
 -- the block in which closing number i stands
 pub record StandsIn (t : List ℕ) (blocks i r : ℕ) : Type 0 where

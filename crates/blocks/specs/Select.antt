@@ -1,6 +1,6 @@
 -- Where a closing stands among some bits, and how a word of them is narrowed down to it.
 use mathlib.Core.Path.{_≡_}
-use Prim.Native.Nat.{ℕ, zero, suc, _+_, _*_, _/_, _<_}
+use Prim.Native.Nat.{ℕ, zero, suc, _+_, _*_, _/_, _≤_, _<_}
 use mathlib.Core.Bool.{cond}
 use mathlib.Core.List.{List}
 use lib.Dec.{ltb}
@@ -27,4 +27,5 @@ sumsOf (suc n) e x = e + closings (lowBits 8 x) + 256 * sumsOf n (e + closings (
 -- what is asked of the w lowest bits in n is asked of the v lowest bits in r
 pub record Leads (w : ℕ) (n : Narrow) (v : ℕ) (r : Narrow) : Type 0 where
   pub among : r .k < closings (lowBits v (r .bits))
+  pub near : r .at + v ≤ n .at + w
   pub there : r .at + closingPlace (lowBits v (r .bits)) (r .k) ≡ n .at + closingPlace (lowBits w (n .bits)) (n .k)

@@ -61,10 +61,11 @@ pub fn select(part: &[u8], k: usize) -> usize
     rest(part, at, left)
 }
 
-// The first block from lo up to hi behind which more than i closings stand, if the block ends never let
-// the closings fall; else some block between. Behind block b there are (256(b + 1) - end) / 2 of them.
+// The first block from one up to another behind which more than i closings stand, where the closings
+// up to the ends of the blocks never fall; some block between in any case. Up to the end of block b there
+// are (256(b + 1) - t[b]) / 2 of them.
 fn search(t: &[u16], i: usize, from: usize, to: usize) -> usize
-    requires { ⌜ (to < length (now t)) × (to ≤ 65536) × (from ≤ 65536) × (i < 32768) ⌝ }
+    requires { ⌜ (from ≤ to) × (to ≤ 256) × (to < length (now t)) × (i < 32768) ⌝ }
     ensures { λ r. ⌜ Stops (now (t .entry)) i from to r ⌝ }
 {
     let mut lo = from;
@@ -80,15 +81,18 @@ fn search(t: &[u16], i: usize, from: usize, to: usize) -> usize
     lo
 }
 
-// The last block in which a closing between numbers 256q and 256(q + 1) can stand.
-fn last(t: &[u16], blocks: usize, q: usize) -> usize
-    requires { ⌜ (896 ≤ length (now t)) × (1 ≤ blocks) × (blocks ≤ 256) × (q < 128) ⌝ }
-    ensures { λ r. ⌜ Last (now (t .entry)) blocks q r ⌝ }
+// A block behind which no closing before number 256(q + 1) stands: that one's, where slot 769 + q names a
+// block from first on, else the last there is.
+fn last(t: &[u16], blocks: usize, first: usize, q: usize) -> usize
+    requires { ⌜ (896 ≤ length (now t)) × (first < blocks) × (q < 128) ⌝ }
+    ensures { λ r. ⌜ Last (now (t .entry)) blocks first q r ⌝ }
 {
     if q < 127 {
         let next = t[769 + q] as usize;
-        if next < blocks {
-            return next;
+        if first <= next {
+            if next < blocks {
+                return next;
+            }
         }
     }
     blocks - 1
@@ -105,7 +109,7 @@ pub fn block(t: &[u16], blocks: usize, i: usize) -> usize
     if blocks <= first {
         return first;
     }
-    search(t, i, first, last(t, blocks, q))
+    search(t, i, first, last(t, blocks, first, q))
 }
 
 // The excess before block k.

@@ -1,31 +1,35 @@
 // Eight bytes as one number, their closings counted at once, and the byte in which a closing stands.
 use crate::byte::Narrow;
 ghost use mathlib.Core.Path.{_≡_};
-ghost use Prim.Native.Nat.{_+_, _≤_, _<_};
+ghost use Prim.Native.Nat.{_+_, _^_, _≤_, _<_};
 ghost use lib.ListN.{length, take, drop};
 ghost use Rattle.rules.specs.Excess.{closings};
 ghost use Rattle.rules.specs.Bytes.{lowBits, allBits};
 ghost use Rattle.blocks.specs.Select.{countsOf, sumsOf, Leads};
 
 fn wide(b: u8) -> u64
-    ensures { λ r. ⌜ r ≡ b ⌝ }
+    ensures { λ r. ⌜ (r ≡ b) × (r < 256) ⌝ }
 {
     b as u64
 }
 
-// Eight bytes from at on as one number, low byte first: one load.
-pub fn word(part: &[u8], at: usize) -> u64
-    requires { ⌜ at + 8 ≤ length (now part) ⌝ }
-    ensures { λ r. ⌜ lowBits 64 r ≡ allBits (take 8 (drop at (now (part .entry)))) ⌝ }
+// Four bytes from at on as one number, low byte first.
+fn four(part: &[u8], at: usize) -> u64
+    requires { ⌜ at + 4 ≤ length (now part) ⌝ }
+    ensures { λ r. ⌜ (r < 2 ^ 32) × (lowBits 32 r ≡ allBits (take 4 (drop at (now (part .entry))))) ⌝ }
 {
     wide(part[at])
         + 0x100 * wide(part[at + 1])
         + 0x1_0000 * wide(part[at + 2])
         + 0x100_0000 * wide(part[at + 3])
-        + 0x1_0000_0000 * wide(part[at + 4])
-        + 0x100_0000_0000 * wide(part[at + 5])
-        + 0x1_0000_0000_0000 * wide(part[at + 6])
-        + 0x100_0000_0000_0000 * wide(part[at + 7])
+}
+
+// Eight bytes from at on as one number, low byte first: the compiler makes it one load.
+pub fn word(part: &[u8], at: usize) -> u64
+    requires { ⌜ at + 8 ≤ length (now part) ⌝ }
+    ensures { λ r. ⌜ lowBits 64 r ≡ allBits (take 8 (drop at (now (part .entry)))) ⌝ }
+{
+    four(part, at) + 0x1_0000_0000 * four(part, at + 4)
 }
 
 // The closings of each byte, all eight at once: bits by twos, by fours, by eights.

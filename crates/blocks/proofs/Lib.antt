@@ -1,3 +1,6 @@
 pub mod Bits
 pub mod Nibbles
 pub mod Selects
+pub mod Lanes
+pub mod Counts
+pub mod Sums

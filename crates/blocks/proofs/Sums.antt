@@ -9,7 +9,7 @@ use mathlib.Core.Bool.{Bool, true, false, cond}
 use borrow.Author.Tests.{leb-true, leb-false, le-leb, lt-leb}
 use lib.Bits.{bitAnd, and-block, and-zero-l}
 use lib.Count.{leadingZeros, leading-unique}
-use lib.Dec.{leb, eqb, eqb→eq}
+use lib.Dec.{ltb, leb, eqb, eqb→eq, lit<}
 use lib.Pow.{shr-shr, shl-shr, field, mod-mod-pow, pow-add}
 use Rattle.rules.specs.Excess.{closings}
 use Rattle.rules.specs.Bytes.{lowBits}
@@ -35,26 +35,108 @@ pub record Summed (c s : ℕ) : Type 0 where
   pub fits : s < 2 ^ 64
   pub right : thrice c ≡ s
 
--- a word of eight bytes
-abbrev word : ℕ → ℕ → ℕ → ℕ → ℕ → ℕ → ℕ → ℕ → ℕ
-word a b c d e f g h = a + 256 * (b + 256 * (c + 256 * (d + 256 * (e + 256 * (f + 256 * (g + 256 * h))))))
+-- the number whose bytes are a 0, a 1, .. , a (n - 1)
+of : (ℕ → ℕ) → ℕ → ℕ
+of a zero = 0
+of a (suc n) = a 0 + 256 * of (λ j. a (suc j)) n
 
-summed : (a b c d e f g h : ℕ) → a ≤ 8 → b ≤ 8 → c ≤ 8 → d ≤ 8 → e ≤ 8 → f ≤ 8 → g ≤ 8 → h ≤ 8
-    → (w s : ℕ) → w ≡ word a b c d e f g h
-    → s ≡ word a (a + b) (a + b + c) (a + b + c + d) (a + b + c + d + e) (a + b + c + d + e + f) (a + b + c + d + e + f + g) (a + b + c + d + e + f + g + h)
-    → Summed w s
-summed a b c d e f g h ha hb hc hd he hf hg hh w s is sum =
-    let p : once w ≡ word a (a + b) (b + c) (c + d) (d + e) (e + f) (f + g) (g + h) = omega arith in
-    let q : twice w ≡ word a (a + b) (a + b + c) (a + b + c + d) (b + c + d + e) (c + d + e + f) (d + e + f + g) (e + f + g + h) = omega arith in
-    record { once-fits = omega arith; twice-fits = omega arith; fits = omega arith; right = omega arith }
+-- each with the one k places before it
+before : ℕ → (ℕ → ℕ) → ℕ → ℕ
+before k a j = a j + cond (ltb j k) 0 (a (j - k))
 
-sums-made : (x : ℕ) → Summed (countsOf 8 x) (sumsOf 8 0 x)
-unfolding countsOf sumsOf
+record Few (m : ℕ) (a : ℕ → ℕ) : Type 0 where
+  pub few : (j : ℕ) → a j ≤ m
+
+few-before : (k m : ℕ) (a : ℕ → ℕ) → Few m a → Few (m + m) (before k a)
+unfolding before
+few-before k m a f = record { few = λ j. omega (arith, f .few j, chosen (ltb j k) (a (j - k)) (f .few (j - k))) }
+  where
+    chosen : (b : Bool) (x : ℕ) → x ≤ m → cond b 0 x ≤ m
+    chosen true x h = omega arith
+    chosen false x h = h
+
+of-below : (m : ℕ) → m < 256 → (n : ℕ) (a : ℕ → ℕ) → Few m a → of a n < 256 ^ n
+unfolding of
+of-below m l zero a f = omega arith
+of-below m l (suc n) a f =
+    rw (pow-succ' 256 n) (omega (arith, f .few 0, of-below m l n (λ j. a (suc j)) (record { few = λ j. f .few (suc j) })))
+
+module _ (m : ℕ) (l : m < 256) (a : ℕ → ℕ) (f : Few m a) where
+  cut-1 : of a 8 ≡ of a 7 + 2 ^ 56 * a 7
+  unfolding of
+  cut-1 = omega arith
+
+  cut-2 : of a 8 ≡ of a 6 + 2 ^ 48 * (a 6 + 256 * a 7)
+  unfolding of
+  cut-2 = omega arith
+
+  cut-4 : of a 8 ≡ of a 4 + 2 ^ 32 * (a 4 + 256 * (a 5 + 256 * (a 6 + 256 * a 7)))
+  unfolding of
+  cut-4 = omega arith
+
+  joined-1 : of a 8 + 256 * of a 7 ≡ of (before 1 a) 8
+  unfolding of before
+  joined-1 = omega arith
+
+  joined-2 : of a 8 + 65536 * of a 6 ≡ of (before 2 a) 8
+  unfolding of before
+  joined-2 = omega arith
+
+  joined-4 : of a 8 + 4294967296 * of a 4 ≡ of (before 4 a) 8
+  unfolding of before
+  joined-4 = omega arith
+
+  -- what is shifted out at the top is lost
+  add-1 : of a 8 + of a 8 * 256 % 2 ^ 64 ≡ of (before 1 a) 8
+  add-1 =
+      let e : of a 8 * 256 % 2 ^ 64 ≡ 256 * of a 7 = omega (arith, cut-1, of-below m l 7 a f) in
+      omega (arith, joined-1)
+
+  add-2 : of a 8 + of a 8 * 65536 % 2 ^ 64 ≡ of (before 2 a) 8
+  add-2 =
+      let e : of a 8 * 65536 % 2 ^ 64 ≡ 65536 * of a 6 = omega (arith, cut-2, of-below m l 6 a f) in
+      omega (arith, joined-2)
+
+  add-4 : of a 8 + of a 8 * 4294967296 % 2 ^ 64 ≡ of (before 4 a) 8
+  add-4 =
+      let e : of a 8 * 4294967296 % 2 ^ 64 ≡ 4294967296 * of a 4 = omega (arith, cut-4, of-below m l 4 a f) in
+      omega (arith, joined-4)
+
+-- the closings of byte j
+lane : ℕ → ℕ → ℕ
+lane x zero = closings (lowBits 8 x)
+lane x (suc j) = lane (x / 256) j
+
+lane-few : (x j : ℕ) → lane x j ≤ 8
+unfolding lane
+lane-few x zero = closings-few 8 x
+lane-few x (suc j) = lane-few (x / 256) j
+
+counts-of : (n x : ℕ) → countsOf n x ≡ of (lane x) n
+unfolding countsOf of lane
+counts-of zero x = refl
+counts-of (suc n) x = rw (counts-of n (x / 256))
+
+sums-of : (x : ℕ) → of (before 4 (before 2 (before 1 (lane x)))) 8 ≡ sumsOf 8 0 x
+unfolding of before lane sumsOf
+sums-of x = omega arith
+
+pub sums-made : (x : ℕ) → Summed (countsOf 8 x) (sumsOf 8 0 x)
 sums-made x =
-    summed _ _ _ _ _ _ _ _
-    (closings-few 8 x) (closings-few 8 (x / 256)) (closings-few 8 (x / 256 / 256)) (closings-few 8 (x / 256 / 256 / 256))
-    (closings-few 8 (x / 256 / 256 / 256 / 256)) (closings-few 8 (x / 256 / 256 / 256 / 256 / 256)) (closings-few 8 (x / 256 / 256 / 256 / 256 / 256 / 256)) (closings-few 8 (x / 256 / 256 / 256 / 256 / 256 / 256 / 256))
-    (countsOf 8 x) (sumsOf 8 0 x) (omega arith) (omega arith)
+    let a = lane x in
+    let f : Few 8 a = record { few = lane-few x } in
+    let g = few-before 1 8 a f in
+    let h = few-before 2 16 (before 1 a) g in
+    let i = few-before 4 32 (before 2 (before 1 a)) h in
+    let p : once (countsOf 8 x) ≡ of (before 1 a) 8 = rw (counts-of 8 x) (add-1 8 (lit< tt) a f) in
+    let q : twice (countsOf 8 x) ≡ of (before 2 (before 1 a)) 8 = rw p (add-2 16 (lit< tt) (before 1 a) g) in
+    let r : thrice (countsOf 8 x) ≡ of (before 4 (before 2 (before 1 a))) 8 = rw q (add-4 32 (lit< tt) (before 2 (before 1 a)) h) in
+    record {
+      once-fits = rw p (of-below 16 (lit< tt) 8 (before 1 a) g);
+      twice-fits = rw q (of-below 32 (lit< tt) 8 (before 2 (before 1 a)) h);
+      fits = rw (← (sums-of x)) (of-below 64 (lit< tt) 8 (before 4 (before 2 (before 1 a))) i);
+      right = r ∙ sums-of x;
+    }
 
 -- ---- what each byte of the sums says
 
@@ -77,7 +159,7 @@ sums-at (suc n) e x (suc j) h l =
     let b : 8 * suc (suc j) ≡ 8 + 8 * suc j = omega arith in
     let down : (m + 256 * rest) / 2 ^ (8 + 8 * j) ≡ (m + 256 * rest) / 256 / 2 ^ (8 * j) = sym (shr-shr (m + 256 * rest) 8 (8 * j)) in
     let up : (m + 256 * rest) / 256 ≡ rest = omega arith in
-    rw (b, closings-add 8 (8 * suc j) x, a, down, up) (omega (arith, sums-at n m (x / 256) j (omega arith) (omega arith)))
+    rw (a, down, up, b, closings-add 8 (8 * suc j) x) (omega (arith, sums-at n m (x / 256) j (omega arith) (omega arith)))
 
 pub sums-total : (x : ℕ) → sumsOf 8 0 x / 2 ^ 56 ≡ closings (lowBits 64 x)
 sums-total x =

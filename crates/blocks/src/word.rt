@@ -1,11 +1,11 @@
 // Eight bytes as one number, their closings counted at once, and the byte in which a closing stands.
 use crate::byte::Narrow;
 ghost use mathlib.Core.Path.{_≡_};
-ghost use Prim.Native.Nat.{_+_, _^_, _≤_, _<_};
+ghost use Prim.Native.Nat.{_+_, _≤_, _<_};
 ghost use lib.ListN.{length, take, drop};
 ghost use Rattle.rules.specs.Excess.{closings};
 ghost use Rattle.rules.specs.Bytes.{lowBits, allBits};
-ghost use Rattle.blocks.specs.Select.{countsOf, sumsOf, Leads};
+ghost use Rattle.blocks.specs.Select.{Loads, countsOf, sumsOf, Leads};
 
 fn wide(b: u8) -> u64
     ensures { λ r. ⌜ (r ≡ b) × (r < 256) ⌝ }
@@ -13,15 +13,19 @@ fn wide(b: u8) -> u64
     b as u64
 }
 
-// Four bytes from at on as one number, low byte first.
+// Two bytes from at on as one number, low byte first.
+fn two(part: &[u8], at: usize) -> u64
+    requires { ⌜ at + 2 ≤ length (now part) ⌝ }
+    ensures { λ r. ⌜ Loads 2 (now (part .entry)) at r ⌝ }
+{
+    wide(part[at]) + 0x100 * wide(part[at + 1])
+}
+
 fn four(part: &[u8], at: usize) -> u64
     requires { ⌜ at + 4 ≤ length (now part) ⌝ }
-    ensures { λ r. ⌜ (r < 2 ^ 32) × (lowBits 32 r ≡ allBits (take 4 (drop at (now (part .entry))))) ⌝ }
+    ensures { λ r. ⌜ Loads 4 (now (part .entry)) at r ⌝ }
 {
-    wide(part[at])
-        + 0x100 * wide(part[at + 1])
-        + 0x1_0000 * wide(part[at + 2])
-        + 0x100_0000 * wide(part[at + 3])
+    two(part, at) + 0x1_0000 * two(part, at + 2)
 }
 
 // Eight bytes from at on as one number, low byte first: the compiler makes it one load.

@@ -1,42 +1,48 @@
+-- `blocks::block` meets its contract: a search from the block of closing 256q to that of closing 256(q + 1), or to the last one.
+-- Assumes nothing.
+use mathlib.Core.Path.{_≡_, refl}
+use Prim.Native.Nat.{_+_, _/_}
+use native.Mathlib.Omega.{arith}
 use borrow.Author.Needs.{needs}
+use Rattle.blocks.proofs.Standing.{not-strange, stands-in}
 use Rattle.blocks.proofs.block.Statement.{statement}
 use Rattle.blocks.proofs.block.Tie as tie
-use Rattle.blocks.proofs.block.Reads as reads
-use Rattle.blocks.proofs.block.Lts as lts
-use Rattle.blocks.proofs.last.Reads as last-reads
-use Rattle.blocks.proofs.search.Reads as search-reads
 
--- src/lib.rt:104:19
 add-first : tie.Need-add-first
 add-first c = search needs
 
--- src/lib.rt:104:17
 mul-first : tie.Need-mul-first
 mul-first c = search needs
 
--- src/lib.rt:104:17
 shared-slice-read-first : tie.Need-shared-slice-read-first
 shared-slice-read-first c = search needs
 
--- src/lib.rt:104:17
 cast-first : tie.Need-cast-first
-cast-first c = ?
+cast-first c = omega (arith, c .shared-slice-known2 .given (768 + c .before .before .args .i / 256))
 
--- src/lib.rt:106:9
 returns : tie.Need-returns
-returns c = ?
+returns c =
+    record {
+      strange = λ h. refl;
+      within = λ h. absurd (omega arith);
+      right = λ s n own l e. absurd (omega (arith, not-strange own (c .before .before .before .args .i) l));
+    }
 
--- src/lib.rt:108:25
 last-requires : tie.Need-last-requires
 last-requires c κs = search needs
 
--- src/lib.rt:108:5
 search-requires : tie.Need-search-requires
 search-requires c κs = search needs
 
--- src/lib.rt:99:1
 returns-2 : tie.Need-returns-2
-returns-2 c = ?
+returns-2 c =
+    let w = c .before .last .ensures in
+    let stops = c .search .ensures in
+    record {
+      strange = λ h. absurd (omega arith);
+      within = λ h. omega (arith, w .within, stops .high);
+      right = λ s n own l e. stands-in own _ l _ _ (rw e at w) stops;
+    }
 
 pub block-spec : {M : Type 1} → statement M
 block-spec =

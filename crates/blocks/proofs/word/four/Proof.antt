@@ -3,99 +3,31 @@ use Rattle.blocks.proofs.word.four.Statement.{statement}
 use Rattle.blocks.proofs.word.four.Tie as tie
 use Rattle.blocks.proofs.word.four.Reads as reads
 use Rattle.blocks.proofs.word.four.Lts as lts
-use Rattle.blocks.proofs.word.wide.Reads as wide-reads
+use Rattle.blocks.proofs.word.two.Reads as two-reads
 
--- src/word.rt:21:10
-shared-slice-read-wide : tie.Need-shared-slice-read-wide
-shared-slice-read-wide c = search needs
+-- src/word.rt:28:5
+two-requires : tie.Need-two-requires
+two-requires c κs = search needs
 
--- src/word.rt:21:5
-wide-requires : tie.Need-wide-requires
-wide-requires c κs = search needs
+-- src/word.rt:28:42
+add-two : tie.Need-add-two
+add-two c = search needs
 
--- src/word.rt:22:29
-add-wide : tie.Need-add-wide
-add-wide c = search needs
+-- src/word.rt:28:32
+two-requires-2 : tie.Need-two-requires-2
+two-requires-2 c κs = search needs
 
--- src/word.rt:22:24
-shared-slice-read-wide-2 : tie.Need-shared-slice-read-wide-2
-shared-slice-read-wide-2 c = search needs
-
--- src/word.rt:22:19
-wide-requires-2 : tie.Need-wide-requires-2
-wide-requires-2 c κs = search needs
-
--- src/word.rt:22:11
+-- src/word.rt:28:21
 mul-result : tie.Need-mul-result
 mul-result c = search needs
 
--- src/word.rt:21:5
+-- src/word.rt:28:5
 add-result : tie.Need-add-result
 add-result c = search needs
 
--- src/word.rt:23:32
-add-wide-2 : tie.Need-add-wide-2
-add-wide-2 c = search needs
-
--- src/word.rt:23:27
-shared-slice-read-wide-3 : tie.Need-shared-slice-read-wide-3
-shared-slice-read-wide-3 c = search needs
-
--- src/word.rt:23:22
-wide-requires-3 : tie.Need-wide-requires-3
-wide-requires-3 c κs = search needs
-
--- src/word.rt:23:11
-mul-result-2 : tie.Need-mul-result-2
-mul-result-2 c = search needs
-
--- src/word.rt:21:5
-add-result-2 : tie.Need-add-result-2
-add-result-2 c = search needs
-
--- src/word.rt:24:34
-add-wide-3 : tie.Need-add-wide-3
-add-wide-3 c = search needs
-
--- src/word.rt:24:29
-shared-slice-read-wide-4 : tie.Need-shared-slice-read-wide-4
-shared-slice-read-wide-4 c = search needs
-
--- src/word.rt:24:24
-wide-requires-4 : tie.Need-wide-requires-4
-wide-requires-4 c κs = search needs
-
--- src/word.rt:24:11
-mul-result-3 : tie.Need-mul-result-3
-mul-result-3 c = search needs
-
--- src/word.rt:21:5
-add-result-3 : tie.Need-add-result-3
-add-result-3 c = search needs
-
--- src/word.rt:17:1
+-- src/word.rt:24:1
 returns : tie.Need-returns
 returns c = ?
 
 pub four-spec : {M : Type 1} → statement M
-four-spec =
-    tie.close
-    (tie.spec
-    shared-slice-read-wide
-    wide-requires
-    add-wide
-    shared-slice-read-wide-2
-    wide-requires-2
-    mul-result
-    add-result
-    add-wide-2
-    shared-slice-read-wide-3
-    wide-requires-3
-    mul-result-2
-    add-result-2
-    add-wide-3
-    shared-slice-read-wide-4
-    wide-requires-4
-    mul-result-3
-    add-result-3
-    returns)
+four-spec = tie.close (tie.spec two-requires add-two two-requires-2 mul-result add-result returns)

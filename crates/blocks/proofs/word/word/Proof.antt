@@ -5,27 +5,27 @@ use Rattle.blocks.proofs.word.word.Reads as reads
 use Rattle.blocks.proofs.word.word.Lts as lts
 use Rattle.blocks.proofs.word.four.Reads as four-reads
 
--- src/word.rt:32:5
+-- src/word.rt:36:5
 four-requires : tie.Need-four-requires
 four-requires c κs = search needs
 
--- src/word.rt:32:49
+-- src/word.rt:36:49
 add-four : tie.Need-add-four
 add-four c = search needs
 
--- src/word.rt:32:38
+-- src/word.rt:36:38
 four-requires-2 : tie.Need-four-requires-2
 four-requires-2 c κs = search needs
 
--- src/word.rt:32:22
+-- src/word.rt:36:22
 mul-result : tie.Need-mul-result
 mul-result c = search needs
 
--- src/word.rt:32:5
+-- src/word.rt:36:5
 add-result : tie.Need-add-result
 add-result c = search needs
 
--- src/word.rt:28:1
+-- src/word.rt:32:1
 returns : tie.Need-returns
 returns c = ?
 

@@ -26,6 +26,6 @@ loads-join j bs at a b low high =
     record {
       fits = rw (e, f, pow-add 2 w w) (digits-lt (high .fits) (low .fits));
       bits =
-      rw (e, lowBits-join w w a b (low .fits), low .bits, high .bits, take-add j j (drop at bs), drop-drop j at bs)
-      (sym (allBits-append (take j (drop at bs)) (take j (drop (at + j) bs))));
+          rw (e, lowBits-join w w a b (low .fits), low .bits, high .bits, take-add j j (drop at bs), drop-drop j at bs)
+          (sym (allBits-append (take j (drop at bs)) (take j (drop (at + j) bs))));
     }

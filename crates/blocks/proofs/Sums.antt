@@ -161,8 +161,8 @@ sums-at (suc n) e x (suc j) h l =
     let up : (m + 256 * rest) / 256 ≡ rest = omega arith in
     rw (a, down, up, b, closings-add 8 (8 * suc j) x) (omega (arith, sums-at n m (x / 256) j (omega arith) (omega arith)))
 
-pub sums-total : (x : ℕ) → sumsOf 8 0 x / 2 ^ 56 ≡ closings (lowBits 64 x)
-sums-total x =
+pub sums-total : (x s : ℕ) → s ≡ sumsOf 8 0 x → s / 2 ^ 56 ≡ closings (lowBits 64 x)
+sums-total x s sums =
     let e : sumsOf 8 0 x / 2 ^ 56 % 256 ≡ 0 + closings (lowBits 64 x) = sums-at 8 0 x 7 (omega arith) (omega arith) in
     let l : sumsOf 8 0 x < 2 ^ 64 = sums-below 8 0 x (omega arith) in
     omega arith

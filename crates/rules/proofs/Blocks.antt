@@ -49,9 +49,9 @@ in-part s a w i l h =
     record {
       among = among;
       stands =
-      ap (λ (t : List Paren). closingPlace t i) (sym whole)
-      ∙ closing-second u (v ++ z) i l
-      ∙ rw (front, closing-first v z (i - closings u) among);
+          ap (λ (t : List Paren). closingPlace t i) (sym whole)
+          ∙ closing-second u (v ++ z) i l
+          ∙ rw (front, closing-first v z (i - closings u) among);
     }
 
 -- ---- blocks

@@ -1,41 +1,40 @@
+-- `blocks::word::two` meets its contract.
+-- Assumes nothing.
+use Prim.Native.Nat.{_+_}
+use native.Mathlib.Omega.{arith}
 use borrow.Author.Needs.{needs}
+use Rattle.blocks.proofs.Loaded.{loads-one, loads-join}
 use Rattle.blocks.proofs.word.two.Statement.{statement}
 use Rattle.blocks.proofs.word.two.Tie as tie
-use Rattle.blocks.proofs.word.two.Reads as reads
-use Rattle.blocks.proofs.word.two.Lts as lts
-use Rattle.blocks.proofs.word.wide.Reads as wide-reads
 
--- src/word.rt:21:10
 shared-slice-read-wide : tie.Need-shared-slice-read-wide
 shared-slice-read-wide c = search needs
 
--- src/word.rt:21:5
 wide-requires : tie.Need-wide-requires
 wide-requires c κs = search needs
 
--- src/word.rt:21:40
 add-wide : tie.Need-add-wide
 add-wide c = search needs
 
--- src/word.rt:21:35
 shared-slice-read-wide-2 : tie.Need-shared-slice-read-wide-2
 shared-slice-read-wide-2 c = search needs
 
--- src/word.rt:21:30
 wide-requires-2 : tie.Need-wide-requires-2
 wide-requires-2 c κs = search needs
 
--- src/word.rt:21:22
 mul-result : tie.Need-mul-result
 mul-result c = search needs
 
--- src/word.rt:21:5
 add-result : tie.Need-add-result
 add-result c = search needs
 
--- src/word.rt:17:1
 returns : tie.Need-returns
-returns c = ?
+returns c =
+    let low = c .before .before .wide in
+    let args = c .before .before .before .before .before .args in
+    loads-join 1 (args .part .now) (args .at) (low .result) (c .wide2 .result)
+    (loads-one (args .part .now) (args .at) (low .result) (omega arith) (low .ensures .0) (low .ensures .1))
+    (loads-one (args .part .now) (args .at + 1) (c .wide2 .result) (omega arith) (c .wide2 .ensures .0) (c .wide2 .ensures .1))
 
 pub two-spec : {M : Type 1} → statement M
 two-spec =

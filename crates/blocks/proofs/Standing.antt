@@ -14,7 +14,7 @@ use Rattle.rules.proofs.Excess.{counts-length}
 use Rattle.rules.proofs.ClosingPlace.{closing-within, closing-among, closing-order}
 use Rattle.rules.proofs.Summary.{filled-at, slot-end, slot-closing, end-stands, closing-block, no-closing}
 use Rattle.rules.proofs.Blocks.{closing-behind, excess-closings, end-closings}
-use Rattle.blocks.specs.Search.{Own, Stops, Last, Before}
+use Rattle.blocks.specs.Search.{Own, Passed, Stops, Last, Before}
 
 module _ {t : List ℕ} {s : List Paren} {n : ℕ} (own : Own t s n) where
   pub own-closings : closings s ≡ n
@@ -67,24 +67,39 @@ module _ {t : List ℕ} {s : List Paren} {n : ℕ} (own : Own t s n) where
         (λ e. omega (arith, inside))
         (w .named)
 
-    -- the block before r is passed, and block r is not
+    ahead : i < closings s
+    ahead = omega (arith, own-closings)
+
+    -- no more than i closings up to the end of a block: the closing stands behind it; more: it does not
+    behind : (k : ℕ) → k + 1 < blocksFor n → 256 * (k + 1) ≤ 2 * i + getD t k 0 → k + 1 ≤ closingPlace s i / 256
+    behind k h p = omega (arith, closing-behind s i (256 * (k + 1)) ahead (omega (arith, end-at k h)))
+
+    upto : (k : ℕ) → k + 1 < blocksFor n → 2 * i + getD t k 0 < 256 * (k + 1) → closingPlace s i / 256 ≤ k
+    upto k h p = omega (arith, closing-among s i (256 * (k + 1)) (omega (arith, end-at k h)))
+
+    -- one of three blocks, and it is not passed
+    pub stands-near : (a b c r : ℕ) → Passed t i (getD t (768 + i / 256) 0) a → Passed t i (getD t (768 + i / 256) 0 + 1) b
+        → r ≡ getD t (768 + i / 256) 0 + a + b → r + 1 < blocksFor n → Passed t i r c → c ≡ 0 → closingPlace s i / 256 ≡ r
+    stands-near a b c r pa pb e h pc z =
+        omega (arith, lower (decLt 0 b) (decLt 0 a), upto r h (pc .ahead z))
+      where
+        lower : Dec (0 < b) → Dec (0 < a) → r ≤ closingPlace s i / 256
+        lower (yes y) x = omega (arith, behind (getD t (768 + i / 256) 0 + 1) (omega arith) (pb .behind y), pa .few, pb .few)
+        lower (no n) (yes x) = omega (arith, behind (getD t (768 + i / 256) 0) (omega arith) (pa .behind x), pa .few)
+        lower (no n) (no m) = omega (arith, from-first)
+
+    -- the block that the search stops at
     pub stands-in : (last r : ℕ) → Last t (blocksFor n) (getD t (768 + i / 256) 0) (i / 256) last → Stops t i (getD t (768 + i / 256) 0) last r → closingPlace s i / 256 ≡ r
     stands-in last r w stops = omega (arith, lower (decLt (getD t (768 + i / 256) 0) r), upper (decLt r last))
       where
         lower : Dec (getD t (768 + i / 256) 0 < r) → r ≤ closingPlace s i / 256
         lower (yes y) =
             let e : r - 1 + 1 ≡ r = omega arith in
-            let g = end-at (r - 1) (omega (arith, w .within, stops .high)) in
-            let f : getD t (r - 1) 0 + 2 * closings (take (256 * r) s) ≡ 256 * r = rw e at g in
-            let b = closing-behind s i (256 * r) (omega (arith, own-closings)) (omega (arith, stops .passed y)) in
-            omega arith
+            omega (arith, behind (r - 1) (omega (arith, w .within, stops .high)) (rw e (stops .passed y)))
         lower (no z) = omega (arith, from-first, stops .low)
 
         upper : Dec (r < last) → closingPlace s i / 256 ≤ r
-        upper (yes y) =
-            let f = end-at r (omega (arith, w .within)) in
-            let b = closing-among s i (256 * (r + 1)) (omega (arith, stops .ahead y)) in
-            omega arith
+        upper (yes y) = upto r (omega (arith, w .within)) (stops .ahead y)
         upper (no z) = omega (arith, upto-last last w, stops .high)
 
   -- ---- the excess before block k

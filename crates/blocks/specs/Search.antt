@@ -17,6 +17,12 @@ pub record Own (t : List ℕ) (s : List Paren) (n : ℕ) : Type 0 where
   pub few : n ≤ most
   pub filled : take slots t ≡ summaryOf s
 
+-- r tells whether no more than i closings stand up to the end of block b
+pub record Passed (t : List ℕ) (i b r : ℕ) : Type 0 where
+  pub few : r ≤ 1
+  pub behind : 0 < r → 256 * (b + 1) ≤ 2 * i + getD t b 0
+  pub ahead : r ≡ 0 → 2 * i + getD t b 0 < 256 * (b + 1)
+
 -- a search from one block up to another stops at block r: up to the end of the block before it there are no more than i closings, up to
 -- its own end there are more
 pub record Stops (t : List ℕ) (i from to r : ℕ) : Type 0 where

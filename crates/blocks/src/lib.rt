@@ -10,7 +10,7 @@ ghost use Prim.Native.Nat.{_+_, _*_, _≤_, _<_};
 ghost use lib.ListN.{length, drop};
 ghost use Rattle.rules.specs.Bytes.{allBits};
 ghost use Rattle.blocks.specs.Select.{selectOf};
-ghost use Rattle.blocks.specs.Search.{Stops, Last, StandsIn, Before};
+ghost use Rattle.blocks.specs.Search.{Passed, Stops, Last, StandsIn, Before};
 
 // The place of closing number k among the bits of these bytes from byte at on, one byte after the other.
 fn rest(part: &[u8], at: usize, k: usize) -> usize
@@ -61,9 +61,21 @@ pub fn select(part: &[u8], k: usize) -> usize
     rest(part, at, left)
 }
 
+// 1 where no more than i closings stand up to the end of block b, else 0: there are (256(b + 1) - t[b]) / 2
+// of them, and nothing is subtracted.
+fn passed(t: &[u16], i: usize, b: usize) -> usize
+    requires { ⌜ (b ≤ 256) × (b < length (now t)) × (i < 32768) ⌝ }
+    ensures { λ r. ⌜ Passed (now (t .entry)) i b r ⌝ }
+{
+    if 256 * (b + 1) <= 2 * i + (t[b] as usize) {
+        1
+    } else {
+        0
+    }
+}
+
 // The first block from one up to another behind which more than i closings stand, where the closings
-// up to the ends of the blocks never fall; some block between in any case. Up to the end of block b there
-// are (256(b + 1) - t[b]) / 2 of them.
+// up to the ends of the blocks never fall; some block between in any case.
 fn search(t: &[u16], i: usize, from: usize, to: usize) -> usize
     requires { ⌜ (from ≤ to) × (to ≤ 256) × (to < length (now t)) × (i < 32768) ⌝ }
     ensures { λ r. ⌜ Stops (now (t .entry)) i from to r ⌝ }
@@ -72,10 +84,10 @@ fn search(t: &[u16], i: usize, from: usize, to: usize) -> usize
     let mut hi = to;
     while lo < hi {
         let mid = (lo + hi) / 2;
-        if 256 * (mid + 1) <= 2 * i + (t[mid] as usize) {
-            lo = mid + 1;
-        } else {
+        if passed(t, i, mid) == 0 {
             hi = mid;
+        } else {
+            lo = mid + 1;
         }
     }
     lo
@@ -99,7 +111,8 @@ fn last(t: &[u16], blocks: usize, first: usize, q: usize) -> usize
 }
 
 // The block in which closing number i stands. Where the summary names a block that is not there it says
-// that number.
+// that number. Most often it is one of three, told by two ends that are read side by side; else it is
+// searched for.
 pub fn block(t: &[u16], blocks: usize, i: usize) -> usize
     requires { ⌜ (896 ≤ length (now t)) × (1 ≤ blocks) × (blocks ≤ 256) × (i < 32768) ⌝ }
     ensures { λ r. ⌜ StandsIn (now (t .entry)) blocks i r ⌝ }
@@ -108,6 +121,12 @@ pub fn block(t: &[u16], blocks: usize, i: usize) -> usize
     let first = t[768 + q] as usize;
     if blocks <= first {
         return first;
+    }
+    let b = first + passed(t, i, first) + passed(t, i, first + 1);
+    if b + 1 < blocks {
+        if passed(t, i, b) == 0 {
+            return b;
+        }
     }
     search(t, i, first, last(t, blocks, first, q))
 }

@@ -1,6 +1,6 @@
 -- `blocks::search` meets its contract. The loop's invariant: the block is between the two ends.
 -- Assumes nothing.
-use Prim.Native.Nat.{_+_, _-_, _/_}
+use Prim.Native.Nat.{_-_}
 use native.Mathlib.Omega.{arith}
 use Rattle.blocks.proofs.Searching.{Searching, begins, goes-up, goes-down, ends}
 use Rattle.blocks.proofs.search.Statement.{statement}
@@ -13,50 +13,30 @@ abbrev μ-loop : tie.MeasureT-loop
 μ-loop t i from to lo₀ hi₀ lo hi = hi - lo
 
 loop-holds : tie.Need-loop-holds Inv-loop μ-loop
-loop-holds c = begins (c .pre .0)
+loop-holds c = begins (c .before .pre .0)
 
 add-mid : tie.Need-add-mid Inv-loop μ-loop
 add-mid c = omega arith
 
-add-if1 : tie.Need-add-if1 Inv-loop μ-loop
-add-if1 c = omega arith
-
-mul-if1 : tie.Need-mul-if1 Inv-loop μ-loop
-mul-if1 c = omega arith
-
-mul-if1-2 : tie.Need-mul-if1-2 Inv-loop μ-loop
-mul-if1-2 c = omega arith
-
-mul-if1-3 : tie.Need-mul-if1-3 Inv-loop μ-loop
-mul-if1-3 c = omega arith
-
-shared-slice-read-if1 : tie.Need-shared-slice-read-if1 Inv-loop μ-loop
-shared-slice-read-if1 c = omega arith
-
-cast-if1 : tie.Need-cast-if1 Inv-loop μ-loop
-cast-if1 c =
-    omega (arith, c .shared-slice-known .given ((c .before .before .loop .lo + c .before .before .loop .hi) / 2))
-
-add-if1-2 : tie.Need-add-if1-2 Inv-loop μ-loop
-add-if1-2 c =
-    omega (arith, c .shared-slice-known .given ((c .before .before .loop .lo + c .before .before .loop .hi) / 2))
-
-add-lo : tie.Need-add-lo Inv-loop μ-loop
-add-lo c = omega arith
+passed-requires : tie.Need-passed-requires Inv-loop μ-loop
+passed-requires c κs = (omega arith, omega arith, omega arith)
 
 loop-less : tie.Need-loop-less Inv-loop μ-loop
 loop-less c = omega arith
 
 loop-again : tie.Need-loop-again Inv-loop μ-loop
 loop-again c =
-    goes-up (c .before .before .before .loop .inv) _ (omega arith) (omega arith) (c .if1 .taken)
+    goes-down (c .before .before .before .loop .inv) _ (omega arith) (omega arith) (c .before .passed .ensures .ahead (c .if1 .taken))
+
+add-lo : tie.Need-add-lo Inv-loop μ-loop
+add-lo c = omega arith
 
 loop-less-2 : tie.Need-loop-less-2 Inv-loop μ-loop
 loop-less-2 c = omega arith
 
 loop-again-2 : tie.Need-loop-again-2 Inv-loop μ-loop
 loop-again-2 c =
-    goes-down (c .before .before .before .loop .inv) _ (omega arith) (omega arith) (c .if1 .left)
+    goes-up (c .before .before .before .loop .inv) _ (omega arith) (omega arith) (c .before .passed .ensures .behind (omega arith))
 
 returns : tie.Need-returns Inv-loop μ-loop
 returns c = ends (c .before .loop .inv) (c .loop-test .left)
@@ -69,16 +49,10 @@ search-spec =
     μ-loop
     loop-holds
     add-mid
-    add-if1
-    mul-if1
-    mul-if1-2
-    mul-if1-3
-    shared-slice-read-if1
-    cast-if1
-    add-if1-2
-    add-lo
+    passed-requires
     loop-less
     loop-again
+    add-lo
     loop-less-2
     loop-again-2
     returns)

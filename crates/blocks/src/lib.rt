@@ -10,7 +10,7 @@ ghost use Prim.Native.Nat.{_+_, _*_, _≤_, _<_};
 ghost use lib.ListN.{length, drop};
 ghost use Rattle.rules.specs.Bytes.{allBits};
 ghost use Rattle.blocks.specs.Select.{selectOf};
-ghost use Rattle.blocks.specs.Search.{Stops, Last, StandsIn, Before};
+ghost use Rattle.blocks.specs.Search.{Passed, Stops, Last, StandsIn, Before};
 
 // The place of closing number k among the bits of these bytes from byte at on, one byte after the other.
 fn rest(part: &[u8], at: usize, k: usize) -> usize
@@ -61,41 +61,58 @@ pub fn select(part: &[u8], k: usize) -> usize
     rest(part, at, left)
 }
 
-// The first block from lo up to hi behind which more than i closings stand, if the block ends never let
-// the closings fall; else some block between. Behind block b there are (256(b + 1) - end) / 2 of them.
+// 1 where no more than i closings stand up to the end of block b, else 0: there are (256(b + 1) - t[b]) / 2
+// of them, and nothing is subtracted.
+fn passed(t: &[u16], i: usize, b: usize) -> usize
+    requires { ⌜ (b ≤ 256) × (b < length (now t)) × (i < 32768) ⌝ }
+    ensures { λ r. ⌜ Passed (now (t .entry)) i b r ⌝ }
+{
+    if 256 * (b + 1) <= 2 * i + (t[b] as usize) {
+        1
+    } else {
+        0
+    }
+}
+
+// The first block from one up to another behind which more than i closings stand, where the closings
+// up to the ends of the blocks never fall; some block between in any case.
 fn search(t: &[u16], i: usize, from: usize, to: usize) -> usize
-    requires { ⌜ (to < length (now t)) × (to ≤ 65536) × (from ≤ 65536) × (i < 32768) ⌝ }
+    requires { ⌜ (from ≤ to) × (to ≤ 256) × (to < length (now t)) × (i < 32768) ⌝ }
     ensures { λ r. ⌜ Stops (now (t .entry)) i from to r ⌝ }
 {
     let mut lo = from;
     let mut hi = to;
     while lo < hi {
         let mid = (lo + hi) / 2;
-        if 256 * (mid + 1) <= 2 * i + (t[mid] as usize) {
-            lo = mid + 1;
-        } else {
+        if passed(t, i, mid) == 0 {
             hi = mid;
+        } else {
+            lo = mid + 1;
         }
     }
     lo
 }
 
-// The last block in which a closing between numbers 256q and 256(q + 1) can stand.
-fn last(t: &[u16], blocks: usize, q: usize) -> usize
-    requires { ⌜ (896 ≤ length (now t)) × (1 ≤ blocks) × (blocks ≤ 256) × (q < 128) ⌝ }
-    ensures { λ r. ⌜ Last (now (t .entry)) blocks q r ⌝ }
+// A block behind which no closing before number 256(q + 1) stands: that one's, where slot 769 + q names a
+// block from first on, else the last there is.
+fn last(t: &[u16], blocks: usize, first: usize, q: usize) -> usize
+    requires { ⌜ (896 ≤ length (now t)) × (first < blocks) × (q < 128) ⌝ }
+    ensures { λ r. ⌜ Last (now (t .entry)) blocks first q r ⌝ }
 {
     if q < 127 {
         let next = t[769 + q] as usize;
-        if next < blocks {
-            return next;
+        if first <= next {
+            if next < blocks {
+                return next;
+            }
         }
     }
     blocks - 1
 }
 
 // The block in which closing number i stands. Where the summary names a block that is not there it says
-// that number.
+// that number. Most often it is one of three, told by two ends that are read side by side; else it is
+// searched for.
 pub fn block(t: &[u16], blocks: usize, i: usize) -> usize
     requires { ⌜ (896 ≤ length (now t)) × (1 ≤ blocks) × (blocks ≤ 256) × (i < 32768) ⌝ }
     ensures { λ r. ⌜ StandsIn (now (t .entry)) blocks i r ⌝ }
@@ -105,7 +122,13 @@ pub fn block(t: &[u16], blocks: usize, i: usize) -> usize
     if blocks <= first {
         return first;
     }
-    search(t, i, first, last(t, blocks, q))
+    let b = first + passed(t, i, first) + passed(t, i, first + 1);
+    if b + 1 < blocks {
+        if passed(t, i, b) == 0 {
+            return b;
+        }
+    }
+    search(t, i, first, last(t, blocks, first, q))
 }
 
 // The excess before block k.

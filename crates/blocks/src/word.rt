@@ -5,27 +5,35 @@ ghost use Prim.Native.Nat.{_+_, _≤_, _<_};
 ghost use lib.ListN.{length, take, drop};
 ghost use Rattle.rules.specs.Excess.{closings};
 ghost use Rattle.rules.specs.Bytes.{lowBits, allBits};
-ghost use Rattle.blocks.specs.Select.{countsOf, sumsOf, Leads};
+ghost use Rattle.blocks.specs.Select.{Loads, countsOf, sumsOf, Leads};
 
 fn wide(b: u8) -> u64
-    ensures { λ r. ⌜ r ≡ b ⌝ }
+    ensures { λ r. ⌜ (r ≡ b) × (r < 256) ⌝ }
 {
     b as u64
 }
 
-// Eight bytes from at on as one number, low byte first: one load.
+// Two bytes from at on as one number, low byte first.
+fn two(part: &[u8], at: usize) -> u64
+    requires { ⌜ at + 2 ≤ length (now part) ⌝ }
+    ensures { λ r. ⌜ Loads 2 (now (part .entry)) at r ⌝ }
+{
+    wide(part[at]) + 0x100 * wide(part[at + 1])
+}
+
+fn four(part: &[u8], at: usize) -> u64
+    requires { ⌜ at + 4 ≤ length (now part) ⌝ }
+    ensures { λ r. ⌜ Loads 4 (now (part .entry)) at r ⌝ }
+{
+    two(part, at) + 0x1_0000 * two(part, at + 2)
+}
+
+// Eight bytes from at on as one number, low byte first: the compiler makes it one load.
 pub fn word(part: &[u8], at: usize) -> u64
     requires { ⌜ at + 8 ≤ length (now part) ⌝ }
     ensures { λ r. ⌜ lowBits 64 r ≡ allBits (take 8 (drop at (now (part .entry)))) ⌝ }
 {
-    wide(part[at])
-        + 0x100 * wide(part[at + 1])
-        + 0x1_0000 * wide(part[at + 2])
-        + 0x100_0000 * wide(part[at + 3])
-        + 0x1_0000_0000 * wide(part[at + 4])
-        + 0x100_0000_0000 * wide(part[at + 5])
-        + 0x1_0000_0000_0000 * wide(part[at + 6])
-        + 0x100_0000_0000_0000 * wide(part[at + 7])
+    four(part, at) + 0x1_0000_0000 * four(part, at + 4)
 }
 
 // The closings of each byte, all eight at once: bits by twos, by fours, by eights.

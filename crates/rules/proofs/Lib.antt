@@ -13,4 +13,5 @@ pub mod Every
 pub mod Checked
 pub mod Record
 pub mod Summary
+pub mod Blocks
 pub mod Table

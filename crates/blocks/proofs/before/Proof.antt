@@ -1,32 +1,35 @@
+-- `blocks::before` meets its contract.
+-- Assumes nothing.
+use mathlib.Core.Path.{refl}
+use Prim.Native.Nat.{_-_}
+use native.Mathlib.Omega.{arith}
 use borrow.Author.Needs.{needs}
+use Rattle.blocks.proofs.Standing.{before-right}
 use Rattle.blocks.proofs.before.Statement.{statement}
 use Rattle.blocks.proofs.before.Tie as tie
-use Rattle.blocks.proofs.before.Reads as reads
-use Rattle.blocks.proofs.before.Lts as lts
 
--- src/lib.rt:117:9
 returns : tie.Need-returns
 returns c = search needs
 
--- src/lib.rt:119:7
 sub-result : tie.Need-sub-result
 sub-result c = search needs
 
--- src/lib.rt:119:5
 mul-result : tie.Need-mul-result
 mul-result c = search needs
 
--- src/lib.rt:119:5
 shared-slice-read-result : tie.Need-shared-slice-read-result
 shared-slice-read-result c = search needs
 
--- src/lib.rt:119:5
 cast-result : tie.Need-cast-result
-cast-result c = ?
+cast-result c = omega (arith, c .shared-slice-known .given (c .before .before .args .k - 1))
 
--- src/lib.rt:112:1
 returns-2 : tie.Need-returns-2
-returns-2 c = ?
+returns-2 c =
+    record {
+      first = λ e. absurd (c .before .if1 .left e);
+      later = λ h. refl;
+      right = λ s n own h l. before-right own (c .before .before .args .k) h l;
+    }
 
 pub before-spec : {M : Type 1} → statement M
 before-spec =

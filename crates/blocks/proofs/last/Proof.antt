@@ -1,36 +1,34 @@
+-- `blocks::last` meets its contract.
+-- Assumes nothing.
+use mathlib.Core.Path.{refl}
+use mathlib.Core.Logic.{inl, inr}
+use Prim.Native.Nat.{_+_}
+use native.Mathlib.Omega.{arith}
 use borrow.Author.Needs.{needs}
 use Rattle.blocks.proofs.last.Statement.{statement}
 use Rattle.blocks.proofs.last.Tie as tie
-use Rattle.blocks.proofs.last.Reads as reads
-use Rattle.blocks.proofs.last.Lts as lts
 
--- src/lib.rt:89:22
 add-next : tie.Need-add-next
 add-next c = search needs
 
--- src/lib.rt:89:20
 mul-next : tie.Need-mul-next
 mul-next c = search needs
 
--- src/lib.rt:89:20
 shared-slice-read-next : tie.Need-shared-slice-read-next
 shared-slice-read-next c = search needs
 
--- src/lib.rt:89:20
 cast-next : tie.Need-cast-next
-cast-next c = ?
+cast-next c = omega (arith, c .shared-slice-known .given (769 + c .before .before .args .q))
 
--- src/lib.rt:91:13
 returns : tie.Need-returns
-returns c = search needs
+returns c =
+    record { low = c .before .if2 .taken; within = c .if3 .taken; named = inl (c .before .before .before .if1 .taken, refl) }
 
--- src/lib.rt:94:5
 sub-result : tie.Need-sub-result
 sub-result c = search needs
 
--- src/lib.rt:84:1
 returns-2 : tie.Need-returns-2
-returns-2 c = ?
+returns-2 c = record { low = omega arith; within = omega arith; named = inr refl }
 
 pub last-spec : {M : Type 1} → statement M
 last-spec =

@@ -1,25 +1,24 @@
+-- `blocks::byte::count_eight` meets its contract: the closings of two halves, added.
+-- Assumes nothing.
+use Prim.Native.Nat.{_/_}
+use native.Mathlib.Omega.{arith}
 use borrow.Author.Needs.{needs}
+use Rattle.blocks.proofs.Bits.{closings-few, closings-add}
 use Rattle.blocks.proofs.byte.count_eight.Statement.{statement}
 use Rattle.blocks.proofs.byte.count_eight.Tie as tie
-use Rattle.blocks.proofs.byte.count_eight.Reads as reads
-use Rattle.blocks.proofs.byte.count_eight.Lts as lts
-use Rattle.blocks.proofs.byte.count_four.Reads as count-four-reads
 
--- src/byte.rt:27:5
 count-four-requires : tie.Need-count-four-requires
 count-four-requires c κs = search needs
 
--- src/byte.rt:27:24
 count-four-requires-2 : tie.Need-count-four-requires-2
 count-four-requires-2 c κs = search needs
 
--- src/byte.rt:27:5
 add-result : tie.Need-add-result
-add-result c = ?
+add-result c =
+    omega (arith, closings-few 4 (c .before .before .args .bits), closings-few 4 (c .before .before .args .bits / 16))
 
--- src/byte.rt:24:1
 returns : tie.Need-returns
-returns c = ?
+returns c = omega (arith, closings-add 4 4 (c .before .before .args .bits))
 
 pub count-eight-spec : {M : Type 1} → statement M
 count-eight-spec =

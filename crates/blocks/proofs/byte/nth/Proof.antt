@@ -1,24 +1,24 @@
+-- `blocks::byte::nth` meets its contract: a half of the byte, and the place in it.
+-- Assumes nothing.
+use native.Mathlib.Omega.{arith}
 use borrow.Author.Needs.{needs}
+use Rattle.rules.specs.Bytes.{lowBits}
+use Rattle.rules.proofs.ClosingPlace.{closing-within}
+use Rattle.rules.proofs.Bytes.{lowBits-length}
 use Rattle.blocks.proofs.byte.nth.Statement.{statement}
 use Rattle.blocks.proofs.byte.nth.Tie as tie
-use Rattle.blocks.proofs.byte.nth.Reads as reads
-use Rattle.blocks.proofs.byte.nth.Lts as lts
-use Rattle.blocks.proofs.byte.half.Reads as half-reads
-use Rattle.blocks.proofs.byte.place.Reads as place-reads
 
--- src/byte.rt:65:9
 half-requires : tie.Need-half-requires
 half-requires c κs = search needs
 
--- src/byte.rt:66:12
 place-requires : tie.Need-place-requires
 place-requires c κs = search needs
 
--- src/byte.rt:66:5
 add-result : tie.Need-add-result
-add-result c = ?
+add-result c =
+    let n = c .before .before .before .args .n in
+    omega (arith, c .before .before .half .ensures .there, closing-within (lowBits 8 (n .bits)) (n .k) (c .before .before .before .pre .0), lowBits-length 8 (n .bits))
 
--- src/byte.rt:61:1
 returns : tie.Need-returns
 returns c = search needs
 

@@ -1,29 +1,27 @@
+-- `blocks::word::sums` meets its contract: the counts, added up byte by byte.
+-- Assumes nothing.
+use mathlib.Core.Path.{_≡_}
 use borrow.Author.Needs.{needs}
+use Rattle.blocks.specs.Select.{sumsOf}
+use Rattle.blocks.proofs.Sums.{sums-made, once, twice, thrice}
 use Rattle.blocks.proofs.word.sums.Statement.{statement}
 use Rattle.blocks.proofs.word.sums.Tie as tie
-use Rattle.blocks.proofs.word.sums.Reads as reads
-use Rattle.blocks.proofs.word.sums.Lts as lts
-use Rattle.blocks.proofs.word.counts.Reads as counts-reads
 
--- src/word.rt:45:9
 counts-requires : tie.Need-counts-requires
 counts-requires c κs = search needs
 
--- src/word.rt:46:13
 add-d : tie.Need-add-d
-add-d c = ?
+add-d c = record { fits = rw (c .counts .ensures) (sums-made (c .before .args .x) .once-fits) }
 
--- src/word.rt:47:13
 add-e : tie.Need-add-e
-add-e c = ?
+add-e c = record { fits = rw (c .counts .ensures) (sums-made (c .before .args .x) .twice-fits) }
 
--- src/word.rt:48:5
 add-result : tie.Need-add-result
-add-result c = ?
+add-result c =
+    record { fits = rw (c .counts .ensures, sums-made (c .before .args .x) .right) (sums-made (c .before .args .x) .fits) }
 
--- src/word.rt:42:1
 returns : tie.Need-returns
-returns c = ?
+returns c = rw (c .counts .ensures) (sums-made (c .before .args .x) .right)
 
 pub sums-spec : {M : Type 1} → statement M
 sums-spec = tie.close (tie.spec counts-requires add-d add-e add-result returns)

@@ -1,56 +1,53 @@
+-- `blocks::word::to_byte` meets its contract: the highest bits that are left tell how many bytes are passed.
+-- Assumes nothing.
+use native.Mathlib.Omega.{arith}
 use borrow.Author.Needs.{needs}
+use lib.Count.{leading-le}
+use Rattle.blocks.proofs.Bits.{leads}
+use Rattle.blocks.proofs.Sums.{Narrows, narrows, marks, start, behind}
 use Rattle.blocks.proofs.word.to_byte.Statement.{statement}
 use Rattle.blocks.proofs.word.to_byte.Tie as tie
-use Rattle.blocks.proofs.word.to_byte.Reads as reads
-use Rattle.blocks.proofs.word.to_byte.Lts as lts
 
--- src/word.rt:58:20
+at : (c : tie.Start) → Narrows (c .args .sums) (c .args .n .bits) (c .args .n .k)
+at c = narrows (c .args .sums) (c .args .n .bits) (c .args .n .k) (c .pre .0) (c .pre .1)
+
 mul-passed : tie.Need-mul-passed
-mul-passed c = ?
+mul-passed c = let w = at c in omega arith
 
--- src/word.rt:58:20
 add-passed : tie.Need-add-passed
-add-passed c = ?
+add-passed c = let w = at c in omega arith
 
--- src/word.rt:58:19
 sub-passed : tie.Need-sub-passed
-sub-passed c = ?
+sub-passed c = at c .room
 
--- src/word.rt:60:13
 sub-d : tie.Need-sub-d
-sub-d c = ?
+sub-d c = leading-le 64 (marks (c .args .sums) (c .args .n .k))
 
--- src/word.rt:61:34
 cast-before : tie.Need-cast-before
 cast-before c = search needs
 
--- src/word.rt:61:19
 shr-before : tie.Need-shr-before
-shr-before c = ?
+shr-before c = let w = at c .within in omega arith
 
--- src/word.rt:63:25
 cast-t7 : tie.Need-cast-t7
 cast-t7 c = search needs
 
--- src/word.rt:63:15
 shr-t9 : tie.Need-shr-t9
-shr-t9 c = ?
+shr-t9 c = let w = at (c .before) .within in omega arith
 
--- src/word.rt:64:13
 sub-t8 : tie.Need-sub-t8
-sub-t8 c = ?
+sub-t8 c = let w = at (c .before) in rw (w .counted) (w .low)
 
--- src/word.rt:65:21
 cast-t12 : tie.Need-cast-t12
 cast-t12 c = search needs
 
--- src/word.rt:65:13
 add-t13 : tie.Need-add-t13
 add-t13 c = search needs
 
--- src/word.rt:53:1
 returns : tie.Need-returns
-returns c = ?
+returns c =
+    let w = at (c .before .before) in
+    rw (w .counted) (leads (start (c .before .before .args .sums) (c .before .before .args .n .k)) 8 64 (c .before .before .args .n) (w .within) (w .low) (w .ahead))
 
 pub to-byte-spec : {M : Type 1} → statement M
 to-byte-spec =

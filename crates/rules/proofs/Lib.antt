@@ -9,3 +9,5 @@ pub mod Between
 pub mod Bytes
 pub mod Same
 pub mod Bits
+pub mod Checked
+pub mod Record

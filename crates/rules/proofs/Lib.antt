@@ -11,3 +11,4 @@ pub mod Same
 pub mod Bits
 pub mod Checked
 pub mod Record
+pub mod Drawer

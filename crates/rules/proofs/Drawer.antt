@@ -6,14 +6,22 @@ use native.Mathlib.Omega.{arith}
 use mathlib.Core.Bool.{Bool, true, false, cond}
 use mathlib.Core.List.{List, _++_}
 use borrow.Author.Tests.{lt-ltb, le-ltb, ltb-false}
-use lib.Dec.{ltb}
-use lib.ListN.{length, drop, length-drop, length-append, List·getD-append}
-use lib.Seq.{drop-append-le, drop-append-seam}
+use lib.Dec.{ltb, eqb}
+use lib.ListN.{length, take, drop, length-drop, length-append, List·getD-append}
+use lib.Seq.{take-all, drop-append-le, drop-append-seam}
 use Rattle.rules.specs.Bytes.{recordLength, entries}
 use Rattle.rules.specs.Refusal.{Outcome, answer, refusal}
 use Rattle.rules.specs.Order.{frameSays}
-use Rattle.rules.specs.Drawer.{mostBytes, mostRecords, Found, found, lost, ifFramed, seek, findSays, oneMore, recordsFrom, recordsIn}
+use Rattle.rules.specs.Drawer.{mostBytes, mostRecords, Found, found, lost, ifFramed, seek, findSays, Drawer, own, shared, Look, part, nothing, inShared, ownFirst, lookSays, oneMore, recordsFrom, recordsIn}
 use Rattle.rules.proofs.Checked.{framed-says, says-framed, not-refused}
+
+-- all that stands from a place on
+pub rest : (d : List ℕ) (at : ℕ) → take (length d - at) (drop at d) ≡ drop at d
+rest d at = take-all (length d - at) (drop at d) (omega (arith, length-drop at d))
+
+-- what a frame over that says
+pub frame-rest : (d : List ℕ) (at : ℕ) {x o : Outcome} → x ≡ o → x ≡ frameSays (take (length d - at) (drop at d)) → frameSays (drop at d) ≡ o
+frame-rest d at e f = rw (← (rest d at)) (sym f ∙ e)
 
 -- a record that is framed at a place ends within the drawer
 pub frame-within : (d : List ℕ) (at n : ℕ) → frameSays (drop at d) ≡ answer n → at + recordLength n ≤ length d
@@ -76,6 +84,57 @@ found-within d r p l e = seek-within d r 0 p l (sought (ltb mostBytes (length d)
     sought true t h = absurd (let z : _≡_ {A = ℕ} 0 1 = cc in omega arith)
     sought false true h = h
     sought false false h = absurd (let z : _≡_ {A = ℕ} 0 1 = cc in omega arith)
+
+-- a part by its place and its end
+pub part-to : (d : List ℕ) (p l : ℕ) → take (p + l - p) (drop p d) ≡ take l (drop p d)
+part-to d p l = let e : p + l - p ≡ l = omega arith in rw e
+
+-- ---- the look
+
+-- the document's three sentences, the last two of them by the two ways that lead to the shared drawer
+module _ (d s : List ℕ) (r : ℕ) where
+  pub look-own : {p l : ℕ} → findSays d r ≡ found p l → 0 < entries (take l (drop p d)) → lookSays d s r ≡ part own p l
+  unfolding lookSays
+  look-own {p} {l} e h = rw (e, lt-ltb 0 (entries (take l (drop p d))) h)
+
+  pub look-empty : {p l : ℕ} → findSays d r ≡ found p l → entries (take l (drop p d)) ≤ 0 → lookSays d s r ≡ inShared (findSays s r)
+  unfolding lookSays
+  look-empty {p} {l} e h = rw (e, le-ltb 0 (entries (take l (drop p d))) h)
+
+  pub look-none : {k : ℕ} → findSays d r ≡ lost k → eqb k 10 ≡ true → lookSays d s r ≡ inShared (findSays s r)
+  unfolding lookSays
+  look-none e h = rw (e, h)
+
+  pub look-refused : {k : ℕ} → findSays d r ≡ lost k → eqb k 10 ≡ false → lookSays d s r ≡ nothing own k
+  unfolding lookSays
+  look-refused e h = rw (e, h)
+
+-- the drawer that is meant
+abbrev pub the : Drawer → List ℕ → List ℕ → List ℕ
+the own d s = d
+the shared d s = s
+
+-- place and length, or the refusal, are what find says in the drawer that the look names
+abbrev pub Found-in : List ℕ → List ℕ → ℕ → Look → Type 0
+Found-in d s r (part w p l) = findSays (the w d s) r ≡ found p l
+Found-in d s r (nothing w k) = findSays (the w d s) r ≡ lost k
+
+pub look-found : (d s : List ℕ) (r : ℕ) → Found-in d s r (lookSays d s r)
+unfolding lookSays
+look-found d s r = by (findSays d r) refl
+  where
+    one-of : (t : Bool) (x y : Look) → Found-in d s r x → Found-in d s r y → Found-in d s r (cond t x y)
+    one-of true x y a b = a
+    one-of false x y a b = b
+
+    in-shared : (g : Found) → findSays s r ≡ g → Found-in d s r (inShared g)
+    in-shared (found p l) e = e
+    in-shared (lost k) e = e
+
+    by : (f : Found) → findSays d r ≡ f → Found-in d s r (ownFirst d f (inShared (findSays s r)))
+    by (found p l) e =
+        one-of (ltb 0 (entries (take l (drop p d)))) (part own p l) (inShared (findSays s r)) e (in-shared (findSays s r) refl)
+    by (lost k) e = one-of (eqb k 10) (inShared (findSays s r)) (nothing own k) (in-shared (findSays s r) refl) e
 
 -- ---- the count of records
 

@@ -1,86 +1,90 @@
+-- `drawer::find` meets its contract. The loop's invariant: what is sought from this place on, with the records left to pass, is what find
+-- says. The measure is what is left of the drawer. Assumes nothing.
+use mathlib.Core.Path.{_≡_, sym, ap, _∙_}
+use Prim.Native.Nat.{suc, _+_, _-_, _≤_}
+use native.Mathlib.Omega.{arith}
+use lib.ListN.{length, drop}
+use borrow.Author.Tests.{lt-ltb, le-ltb}
+use borrow.Author.Needs.{needs}
+use Rattle.rules.specs.Refusal.{answer}
+use Rattle.rules.specs.Bytes.{recordLength}
+use Rattle.rules.specs.Order.{frameSays}
+use Rattle.rules.specs.Drawer.{seek, findSays}
+use Rattle.rules.proofs.Drawer.{frame-rest, frame-within, seek-end, seek-fault, seek-here, seek-on, find-seek}
+use Rattle.answers.specs.Said.{said}
 use Rattle.drawer.proofs.find.Statement.{statement}
 use Rattle.drawer.proofs.find.Tie as tie
-use Rattle.drawer.proofs.find.Reads as reads
-use Rattle.drawer.proofs.find.Lts as lts
-use Rattle.checks.proofs.frame.Reads as frame-reads
 
 abbrev Inv-loop : tie.InvT-loop
-Inv-loop drawer r at₀ left₀ at left = ?
+Inv-loop drawer r at₀ left₀ at left = (at ≤ length drawer) × (seek drawer left at ≡ findSays drawer r)
 
 abbrev μ-loop : tie.MeasureT-loop
-μ-loop drawer r at₀ left₀ at left = ?
+μ-loop drawer r at₀ left₀ at left = length drawer - at
 
--- src/lib.rt:39:9
 returns : tie.Need-returns Inv-loop μ-loop
-returns c = ?
+unfolding findSays
+returns c = simp (lt-ltb _ _ (c .if1 .taken))
 
--- src/lib.rt:42:9
 returns-2 : tie.Need-returns-2 Inv-loop μ-loop
-returns-2 c = ?
+unfolding findSays
+returns-2 c = simp (le-ltb _ _ (c .before .if1 .left), le-ltb _ _ (c .if2 .taken))
 
--- src/lib.rt:46:5
 loop-holds : tie.Need-loop-holds Inv-loop μ-loop
-loop-holds c = ?
+loop-holds c = (omega arith, sym (find-seek _ _ (c .before .if1 .left) (c .if2 .left)))
 
--- src/lib.rt:47:29
 sub-frame : tie.Need-sub-frame Inv-loop μ-loop
-sub-frame c = ?
+sub-frame c = search needs
 
--- src/lib.rt:47:29
 part-frame-start : tie.Need-part-frame-start Inv-loop μ-loop
-part-frame-start c = ?
+part-frame-start c = search needs
 
--- src/lib.rt:47:29
 part-frame-end : tie.Need-part-frame-end Inv-loop μ-loop
-part-frame-end c = ?
+part-frame-end c = search needs
 
--- src/lib.rt:47:15
 frame-requires : tie.Need-frame-requires Inv-loop μ-loop
-frame-requires c κs = ?
+frame-requires c κs = search needs
 
--- src/lib.rt:48:24
 enum-known-n : tie.Need-enum-known-n Inv-loop μ-loop
-enum-known-n c = ?
+enum-known-n c = search needs
 
--- src/lib.rt:49:35
+-- the frame at the loop's place has answered
+framed : (c : tie.After-known-told Inv-loop μ-loop) → frameSays (drop (c .before .before .before .before .before .before .loop .at) (c .before .before .before .before .before .before .before .before .before .before .args .drawer .now)) ≡ answer (c .before .n .given .0 .0)
+framed c = frame-rest (c .before .before .before .before .before .before .before .before .before .before .args .drawer .now) (c .before .before .before .before .before .before .loop .at) (ap said (c .before .n .given .1)) (c .before .before .before .frame .ensures)
+
+within : (c : tie.After-known-told Inv-loop μ-loop) → c .before .before .before .before .before .before .loop .at + recordLength (c .before .n .given .0 .0) ≤ length (c .before .before .before .before .before .before .before .before .before .before .args .drawer .now)
+within c = frame-within _ _ _ (framed c)
+
 add-length : tie.Need-add-length Inv-loop μ-loop
-add-length c = ?
+add-length c = omega (arith, within c)
 
--- src/lib.rt:49:30
 add-length-2 : tie.Need-add-length-2 Inv-loop μ-loop
-add-length-2 c = ?
+add-length-2 c = omega (arith, within c)
 
--- src/lib.rt:51:21
 returns-3 : tie.Need-returns-3 Inv-loop μ-loop
-returns-3 c = ?
+returns-3 c = sym (seek-here _ _ _ (framed (c .before))) ∙ rw (c .if3 .taken) at (c .before .before .before .before .before .before .before .loop .inv .1)
 
--- src/lib.rt:53:17
 sub-left : tie.Need-sub-left Inv-loop μ-loop
-sub-left c = ?
+sub-left c = omega arith
 
--- src/lib.rt:54:17
 add-at : tie.Need-add-at Inv-loop μ-loop
-add-at c = ?
+add-at c = omega (arith, within (c .before))
 
--- src/lib.rt:46:5
 loop-less : tie.Need-loop-less Inv-loop μ-loop
-loop-less c = ?
+loop-less c = omega (arith, within (c .before))
 
--- src/lib.rt:46:5
 loop-again : tie.Need-loop-again Inv-loop μ-loop
-loop-again c = ?
+loop-again c =
+    let on : c .before .before .before .before .before .before .before .loop .left ≡ suc (c .before .before .before .before .before .before .before .loop .left - 1) = omega arith in
+    (within (c .before), sym (seek-on _ _ _ (framed (c .before)) _) ∙ rw on at (c .before .before .before .before .before .before .before .loop .inv .1))
 
--- src/lib.rt:56:29
 enum-known-x : tie.Need-enum-known-x Inv-loop μ-loop
-enum-known-x c = ?
+enum-known-x c = search needs
 
--- src/lib.rt:56:35
 returns-4 : tie.Need-returns-4 Inv-loop μ-loop
-returns-4 c = ?
+returns-4 c = sym (seek-fault _ _ _ _ (c .before .before .before .before .before .loop-test .taken) (frame-rest (c .before .before .before .before .before .before .before .before .before .before .args .drawer .now) (c .before .before .before .before .before .before .loop .at) (ap said (c .before .x .given .1)) (c .before .before .before .frame .ensures))) ∙ c .before .before .before .before .before .before .loop .inv .1
 
--- src/lib.rt:35:1
 returns-5 : tie.Need-returns-5 Inv-loop μ-loop
-returns-5 c = ?
+returns-5 c = sym (seek-end _ _ _ (c .loop-test .left)) ∙ c .before .loop .inv .1
 
 pub find-spec : {M : Type 1} → statement M
 find-spec =

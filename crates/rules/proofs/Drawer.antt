@@ -5,15 +5,15 @@ use Prim.Native.Nat.{ℕ, zero, suc, _+_, _-_, _≤_, _<_}
 use native.Mathlib.Omega.{arith}
 use mathlib.Core.Bool.{Bool, true, false, cond}
 use mathlib.Core.List.{List, _++_}
-use borrow.Author.Tests.{lt-ltb, le-ltb, ltb-false}
+use borrow.Author.Tests.{lt-ltb, le-ltb, ltb-true, ltb-false}
 use lib.Dec.{ltb, eqb}
 use lib.ListN.{length, take, drop, length-drop, length-append, List·getD-append}
 use lib.Seq.{take-all, drop-append-le, drop-append-seam}
-use Rattle.rules.specs.Bytes.{recordLength, entries}
-use Rattle.rules.specs.Refusal.{Outcome, answer, refusal}
-use Rattle.rules.specs.Order.{frameSays}
-use Rattle.rules.specs.Drawer.{mostBytes, mostRecords, Found, found, lost, ifFramed, seek, findSays, Drawer, own, shared, Look, part, nothing, inShared, ownFirst, lookSays, oneMore, recordsFrom, recordsIn}
-use Rattle.rules.proofs.Checked.{framed-says, says-framed, not-refused}
+use Rattle.rules.specs.Bytes.{most, recordLength, entries}
+use Rattle.rules.specs.Refusal.{Outcome, answer, refusal, unlessRefused}
+use Rattle.rules.specs.Order.{frameSays, buildSays}
+use Rattle.rules.specs.Drawer.{mostBytes, mostRecords, Found, found, lost, ifFramed, seek, findSays, Drawer, own, shared, Look, part, nothing, inShared, ownFirst, lookSays, oneMore, recordsFrom, recordsIn, appendSays}
+use Rattle.rules.proofs.Checked.{framed-says, says-framed, not-refused, passed, went-on}
 
 -- all that stands from a place on
 pub rest : (d : List ℕ) (at : ℕ) → take (length d - at) (drop at d) ≡ drop at d
@@ -53,21 +53,21 @@ pub record Within (d : List ℕ) (p l : ℕ) : Type 0 where
   pub headed : 4 ≤ l
   pub within : p + l ≤ length d
 
-went-on : (t : Bool) (o : Outcome) (next : ℕ → Found) {p l : ℕ} → cond t (ifFramed o next) (lost 10) ≡ found p l
+sought-on : (t : Bool) (o : Outcome) (next : ℕ → Found) {p l : ℕ} → cond t (ifFramed o next) (lost 10) ≡ found p l
     → (n : ℕ) × (o ≡ answer n) × (next (recordLength n) ≡ found p l)
-went-on true (answer n) next e = (n, refl, e)
-went-on true (refusal k) next e = absurd (let z : _≡_ {A = ℕ} 0 1 = cc in omega arith)
-went-on false o next e = absurd (let z : _≡_ {A = ℕ} 0 1 = cc in omega arith)
+sought-on true (answer n) next e = (n, refl, e)
+sought-on true (refusal k) next e = absurd (let z : _≡_ {A = ℕ} 0 1 = cc in omega arith)
+sought-on false o next e = absurd (let z : _≡_ {A = ℕ} 0 1 = cc in omega arith)
 
 seek-within : (d : List ℕ) (r at p l : ℕ) → seek d r at ≡ found p l → Within d p l
 unfolding seek
 seek-within d zero at p l e =
-    let (n, f, h) = went-on (ltb at (length d)) (frameSays (drop at d)) (λ m. found at m) e in
+    let (n, f, h) = sought-on (ltb at (length d)) (frameSays (drop at d)) (λ m. found at m) e in
     let a : at ≡ p = cc in
     let b : recordLength n ≡ l = cc in
     record { headed = omega arith; within = omega (arith, frame-within d at n f) }
 seek-within d (suc r) at p l e =
-    let (n, f, h) = went-on (ltb at (length d)) (frameSays (drop at d)) (λ m. seek d r (at + m)) e in
+    let (n, f, h) = sought-on (ltb at (length d)) (frameSays (drop at d)) (λ m. seek d r (at + m)) e in
     seek-within d r (at + recordLength n) p l h
 
 -- ---- find
@@ -264,3 +264,46 @@ module _ (x y : List ℕ) where
     records-behind l (none at e) =
         more at n 0 (rw e at-end) (none (at + recordLength n) (omega (arith, length-append x y)))
     records-behind l (more at m k e s) = more at m (suc k) (framed-behind at m e) (records-behind l s)
+
+-- ---- append
+
+-- a build that answers has room for the record
+pub record Fits (c : List ℕ) (o l : ℕ) : Type 0 where
+  pub few : length c ≤ most
+  pub size : recordLength (length c) ≡ l
+  pub room : l ≤ o
+
+pub build-answers : (c : List ℕ) (w o : ℕ) {l : ℕ} → buildSays c w o ≡ answer l → Fits c o l
+unfolding buildSays
+build-answers c w o {l} e =
+    let (few, f) = not-refused (ltb most (length c)) 1 e in
+    let (room, g) = not-refused (ltb o (recordLength (length c))) 2 f in
+    let (work, h) = not-refused (ltb w (length c)) 3 g in
+    let size : recordLength (length c) ≡ l = cc in
+    record { few = ltb-false most (length c) few; size = size; room = omega (arith, ltb-false o (recordLength (length c)) room) }
+
+-- no check on the buffer and its k records refuses
+pub record Ready (b : List ℕ) (u k : ℕ) : Type 0 where
+  pub short : length b ≤ mostBytes
+  pub used : u ≤ length b
+  pub whole : recordsIn (take u b) ≡ answer k
+  pub room : k < mostRecords
+
+-- so build decides
+pub append-builds : (b : List ℕ) (u : ℕ) (c : List ℕ) (w : ℕ) {k : ℕ} → Ready b u k
+    → appendSays b u c w ≡ unlessRefused (buildSays c w (length b - u)) (λ l. answer (u + l))
+unfolding appendSays
+append-builds b u c w {k} r =
+    rw (le-ltb mostBytes (length b) (r .short), le-ltb (length b) u (r .used), r .whole, lt-ltb k mostRecords (r .room))
+
+-- and only so does it answer
+pub append-answers : (b : List ℕ) (u : ℕ) (c : List ℕ) (w : ℕ) {v : ℕ} → appendSays b u c w ≡ answer v
+    → (k : ℕ) × Ready b u k × (l : ℕ) × (buildSays c w (length b - u) ≡ answer l) × (u + l ≡ v)
+unfolding appendSays
+append-answers b u c w e =
+    let (short, f) = not-refused (ltb mostBytes (length b)) 12 e in
+    let (used, g) = not-refused (ltb (length b) u) 13 f in
+    let (k, whole, h) = went-on (recordsIn (take u b)) g in
+    let (room, i) = passed (ltb k mostRecords) 14 h in
+    let (l, says, j) = went-on (buildSays c w (length b - u)) i in
+    (k, record { short = ltb-false mostBytes (length b) short; used = ltb-false (length b) u used; whole = whole; room = ltb-true k mostRecords room }, l, says, cc)

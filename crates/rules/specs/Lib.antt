@@ -7,3 +7,4 @@ pub mod Bytes
 pub mod Refusal
 pub mod Order
 pub mod Drawer
+pub mod Summary

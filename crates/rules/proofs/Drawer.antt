@@ -12,7 +12,7 @@ use lib.Seq.{take-all, drop-append-le, drop-append-seam}
 use Rattle.rules.specs.Bytes.{most, recordLength, entries}
 use Rattle.rules.specs.Refusal.{Outcome, answer, refusal, unlessRefused}
 use Rattle.rules.specs.Order.{frameSays, buildSays}
-use Rattle.rules.specs.Drawer.{mostBytes, mostRecords, Found, found, lost, ifFramed, seek, findSays, Drawer, own, shared, Look, part, nothing, inShared, ownFirst, lookSays, oneMore, recordsFrom, recordsIn, appendSays}
+use Rattle.rules.specs.Drawer.{mostBytes, mostRecords, Found, found, lost, ifFramed, seek, findSays, own, shared, Look, part, nothing, inShared, ownFirst, lookSays, oneMore, recordsFrom, recordsIn, appendSays}
 use Rattle.rules.proofs.Checked.{framed-says, says-framed, not-refused, passed, went-on}
 
 -- all that stands from a place on
@@ -109,15 +109,12 @@ module _ (d s : List ℕ) (r : ℕ) where
   unfolding lookSays
   look-refused e h = rw (e, h)
 
--- the drawer that is meant
-abbrev pub the : Drawer → List ℕ → List ℕ → List ℕ
-the own d s = d
-the shared d s = s
-
 -- place and length, or the refusal, are what find says in the drawer that the look names
 abbrev pub Found-in : List ℕ → List ℕ → ℕ → Look → Type 0
-Found-in d s r (part w p l) = findSays (the w d s) r ≡ found p l
-Found-in d s r (nothing w k) = findSays (the w d s) r ≡ lost k
+Found-in d s r (part own p l) = findSays d r ≡ found p l
+Found-in d s r (part shared p l) = findSays s r ≡ found p l
+Found-in d s r (nothing own k) = findSays d r ≡ lost k
+Found-in d s r (nothing shared k) = findSays s r ≡ lost k
 
 pub look-found : (d s : List ℕ) (r : ℕ) → Found-in d s r (lookSays d s r)
 unfolding lookSays

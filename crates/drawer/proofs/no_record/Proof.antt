@@ -1,22 +1,15 @@
 -- `drawer::no_record` meets its contract: only 10 is the number of that refusal.
 -- Assumes nothing.
-use mathlib.Core.Path.{_≡_, sym, ap}
+use mathlib.Core.Path.{sym}
 use Prim.Native.Nat.{ℕ}
 use mathlib.Core.List.{List, [], _∷_}
 use borrow.Author.Tests.{ne-eqb}
 use types.Run.{miss}
-use Rattle.rules.specs.Refusal.{refusal}
-use Rattle.answers.specs.declared.Refusal.{Refusal}
 use Rattle.answers.specs.declared.Refusal.the-variants.{NoRecord}
-use Rattle.answers.specs.declared.Answer.the-variants.{Refused}
-use Rattle.answers.specs.Said.{number}
-use Rattle.answers.proofs.Said.{said-once}
+use Rattle.drawer.proofs.Said.{number-once}
 use borrow.Author.Needs.{needs}
 use Rattle.drawer.proofs.no_record.Statement.{statement}
 use Rattle.drawer.proofs.no_record.Tie as tie
-
-none : (x : Refusal) → number x ≡ 10 → x ≡ NoRecord
-none x e = let f : Refused x ≡ Refused NoRecord = said-once (Refused x) (Refused NoRecord) (ap refusal e) in cc
 
 -- the tags of all the others
 abbrev others : List ℕ
@@ -29,7 +22,7 @@ returns : tie.Need-returns
 returns c = rw (c .enum-told .given .1)
 
 returns-2 : tie.Need-returns-2
-returns-2 c = sym (ne-eqb _ _ (λ e. miss others 9 tt (rw (none (c .before .args .x) e) at (c .match .keys2))))
+returns-2 c = sym (ne-eqb _ _ (λ e. miss others 9 tt (rw (number-once (c .before .args .x) NoRecord e) at (c .match .keys2))))
 
 pub no-record-spec : {M : Type 1} → statement M
 no-record-spec = tie.close (tie.spec enum-told returns returns-2)

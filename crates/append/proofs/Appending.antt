@@ -1,12 +1,12 @@
 -- From the checks and from what build leaves in the lent tail to the contract of `append`.
 -- Assumes nothing.
-use mathlib.Core.Path.{_≡_, refl, sym, ap, _∙_}
+use mathlib.Core.Path.{_≡_, sym, ap, _∙_}
 use Prim.Native.Nat.{ℕ, _+_, _-_, _≤_}
 use native.Mathlib.Omega.{arith}
-use mathlib.Core.List.{List, [], _++_, append-nil}
+use mathlib.Core.List.{List, _++_, append-nil}
 use lib.ListN.{length, take, drop, length-drop, take-append-drop, drop-of-length-le}
 use Rattle.rules.specs.Refusal.{answer, refusal, unlessRefused}
-use Rattle.rules.specs.Order.{buildSays, outputAfter, workAfter}
+use Rattle.rules.specs.Order.{outputAfter, workAfter}
 use Rattle.rules.specs.Drawer.{appendSays, bufferAfter, workAfterAppend}
 use Rattle.rules.proofs.Drawer.{rest, Ready, append-builds, build-answers}
 use Rattle.answers.specs.declared.Refusal.{Refusal}

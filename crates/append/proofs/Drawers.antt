@@ -1,20 +1,20 @@
 -- What the rules of drawers amount to, proved: appended records are found, the look and its question agree, the own drawer comes first, append
 -- keeps the counts private, and no input allows two results. Assumes nothing.
 use mathlib.Core.Path.{_≡_, refl, sym, ap, _∙_}
-use Prim.Native.Nat.{ℕ, suc, _+_, _-_, _≤_, _<_}
+use Prim.Native.Nat.{ℕ, _+_, _-_, _≤_, _<_}
 use native.Mathlib.Omega.{arith}
-use mathlib.Core.List.{List, [], _++_, append-assoc}
+use mathlib.Core.List.{List, _++_, append-assoc}
 use lib.ListN.{length, take, drop, length-append, length-take, length-drop}
 use lib.Seq.{take-all, take-at, drop-at, drop-drop, length-take-le, take-append-le, drop-append-le}
 use Rattle.rules.specs.Column.{Alike}
 use Rattle.rules.specs.Shape.{shape}
-use Rattle.rules.specs.Bytes.{most, recordLength, recordOf, columnRecord, entries}
-use Rattle.rules.specs.Refusal.{Outcome, answer}
+use Rattle.rules.specs.Bytes.{most, recordLength, recordOf, columnRecord}
+use Rattle.rules.specs.Refusal.{answer}
 use Rattle.rules.specs.Order.{frameSays, buildSays, outputAfter, workAfter}
-use Rattle.rules.specs.Drawer.{mostBytes, mostRecords, Found, found, lost, findSays, partOf, handOut, own, shared, Look, part, nothing, lookSays, lookPart, stands, refusedBy, whence, whichSays, recordsIn, appendSays, bufferAfter, workAfterAppend}
+use Rattle.rules.specs.Drawer.{mostBytes, mostRecords, Found, found, lost, findSays, partOf, handOut, own, shared, Look, part, nothing, lookSays, lookPart, whence, whichSays, recordsIn, appendSays, bufferAfter, workAfterAppend}
 use Rattle.rules.proofs.Checked.{framed-says}
 use Rattle.rules.proofs.Record.{record-length, record-entries}
-use Rattle.rules.proofs.Drawer.{Within, found-within, find-seek, seek-before, seek-behind, Found-in, look-own, look-found, Records, records-are, records-behind, records-count, Ready, append-answers, build-answers}
+use Rattle.rules.proofs.Drawer.{found-within, find-seek, seek-before, seek-behind, Found-in, look-own, look-found, Records, records-are, records-behind, records-count, Ready, append-answers, build-answers}
 use Rattle.theory.proofs.Agree.{alike-shapes}
 use Rattle.answers.proofs.Said.{said-once}
 use Rattle.drawer.proofs.Said.{found-once, whence-once}

@@ -1,7 +1,6 @@
 -- Two answers of find of which the same is said are equal, and so are two answers of the question which drawer a part comes from.
 -- Assumes nothing.
 use mathlib.Core.Path.{_≡_, refl, ap}
-use Prim.Native.Nat.{ℕ}
 use Rattle.rules.specs.Refusal.{refusal}
 use Rattle.answers.specs.declared.Refusal.{Refusal}
 use Rattle.answers.specs.declared.Answer.the-variants.{Refused as Refused′}

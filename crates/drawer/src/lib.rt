@@ -3,7 +3,9 @@
 use answers::Answer;
 use answers::Refusal;
 ghost use mathlib.Core.Path.{_≡_};
+ghost use Prim.Native.Nat.{_+_, _≤_};
 ghost use lib.Dec.{eqb};
+ghost use lib.ListN.{length, take, drop};
 ghost use Rattle.rules.specs.Drawer.{findSays, handOut, inShared, lookSays, lookPart, whichSays};
 ghost use Rattle.answers.specs.Said.{number};
 ghost use Rattle.drawer.specs.Said.{saidFound, saidChoice, saidWhence};
@@ -46,12 +48,12 @@ pub fn find(drawer: &[u8], r: usize) -> Found
     while at < drawer.len() {
         match checks::frame(&drawer[at..]) {
             Answer::Is(n) => {
-                let length = 4 + (n + 3) / 4;
+                let size = 4 + (n + 3) / 4;
                 if left == 0 {
-                    return Found::At(at, length);
+                    return Found::At(at, size);
                 }
                 left -= 1;
-                at += length;
+                at += size;
             }
             Answer::Refused(x) => return Found::Refused(x),
         }
@@ -59,15 +61,21 @@ pub fn find(drawer: &[u8], r: usize) -> Found
     Found::Refused(Refusal::NoRecord)
 }
 
+// The part of a drawer that a record takes up.
+fn part(drawer: &[u8], at: usize, size: usize) -> &[u8]
+    requires { ⌜ (4 ≤ size) × (at + size ≤ length (now drawer)) ⌝ }
+    ensures { λ p. ⌜ now p ≡ take size (drop at (now (drawer .entry))) ⌝ }
+{
+    let end = at + size;
+    &drawer[at..end]
+}
+
 // The hand-out of record r: exactly that part of the drawer, or a part of length 0 where find refuses.
 pub fn hand_out(drawer: &[u8], r: usize) -> &[u8]
-    ensures { λ part. ⌜ now part ≡ handOut (now (drawer .entry)) r ⌝ }
+    ensures { λ p. ⌜ now p ≡ handOut (now (drawer .entry)) r ⌝ }
 {
     match find(drawer, r) {
-        Found::At(at, length) => {
-            let end = at + length;
-            &drawer[at..end]
-        }
+        Found::At(at, size) => part(drawer, at, size),
         Found::Refused(_) => &drawer[0..0],
     }
 }
@@ -85,19 +93,20 @@ fn in_shared(shared: &[u8], r: usize) -> Choice
     ensures { λ x. ⌜ saidChoice x ≡ inShared (findSays (now (shared .entry)) r) ⌝ }
 {
     match find(shared, r) {
-        Found::At(at, length) => Choice::Shared(at, length),
+        Found::At(at, size) => Choice::Shared(at, size),
         Found::Refused(x) => Choice::SharedRefused(x),
     }
 }
 
+// The own record r if there is one and its n is above 0; the shared one if own find says 10 or n is 0; any
+// other refusal of the own drawer decides.
 fn choose(own: &[u8], shared: &[u8], r: usize) -> Choice
     ensures { λ x. ⌜ saidChoice x ≡ lookSays (now (own .entry)) (now (shared .entry)) r ⌝ }
 {
     match find(own, r) {
-        Found::At(at, length) => {
-            let end = at + length;
-            if 0 < checks::head(&own[at..end]) {
-                return Choice::Own(at, length);
+        Found::At(at, size) => {
+            if 0 < checks::head(part(own, at, size)) {
+                return Choice::Own(at, size);
             }
             in_shared(shared, r)
         }
@@ -110,23 +119,20 @@ fn choose(own: &[u8], shared: &[u8], r: usize) -> Choice
     }
 }
 
+// The look through a pass's own drawer and the shared one, for one r in both: a part of one of the two, or a
+// part of length 0. It takes a number of steps in proportion to r.
 pub fn look<'a>(own: &'a [u8], shared: &'a [u8], r: usize) -> &'a [u8]
-    ensures { λ part. ⌜ now part ≡ lookPart (now (own .entry)) (now (shared .entry)) (lookSays (now (own .entry)) (now (shared .entry)) r) ⌝ }
+    ensures { λ p. ⌜ now p ≡ lookPart (now (own .entry)) (now (shared .entry)) (lookSays (now (own .entry)) (now (shared .entry)) r) ⌝ }
 {
     match choose(own, shared, r) {
-        Choice::Own(at, length) => {
-            let end = at + length;
-            &own[at..end]
-        }
-        Choice::Shared(at, length) => {
-            let end = at + length;
-            &shared[at..end]
-        }
+        Choice::Own(at, size) => part(own, at, size),
+        Choice::Shared(at, size) => part(shared, at, size),
         Choice::OwnRefused(_) => &own[0..0],
         Choice::SharedRefused(_) => &shared[0..0],
     }
 }
 
+// Which drawer the part of a look comes from, or the refusal and the drawer that gave it.
 pub fn which(own: &[u8], shared: &[u8], r: usize) -> Whence
     ensures { λ w. ⌜ saidWhence w ≡ whichSays (now (own .entry)) (now (shared .entry)) r ⌝ }
 {

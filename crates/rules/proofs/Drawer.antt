@@ -85,10 +85,6 @@ found-within d r p l e = seek-within d r 0 p l (sought (ltb mostBytes (length d)
     sought false true h = h
     sought false false h = absurd (let z : _≡_ {A = ℕ} 0 1 = cc in omega arith)
 
--- a part by its place and its end
-pub part-to : (d : List ℕ) (p l : ℕ) → take (p + l - p) (drop p d) ≡ take l (drop p d)
-part-to d p l = let e : p + l - p ≡ l = omega arith in rw e
-
 -- ---- the look
 
 -- the document's three sentences, the last two of them by the two ways that lead to the shared drawer

@@ -1,6 +1,7 @@
 -- `append::append` meets its contract: the checks on the buffer in their order, and behind them what build answers.
 -- Assumes nothing.
 use mathlib.Core.Path.{sym, ap, _∙_}
+use Prim.Native.Nat.{_≤_}
 use native.Mathlib.Omega.{arith}
 use lib.ListN.{length}
 use lib.Seq.{length-take-le}
@@ -39,8 +40,9 @@ same-length c = search needs
 returns-3 : tie.Need-returns-3
 unfolding appendSays
 returns-3 c =
+    let full : 64 ≤ c .before .before .k .given .0 .0 = omega arith in
     let whole = sym (c .before .before .before .before .count .ensures) ∙ ap said (c .before .before .k .given .1) in
-    refused _ _ _ _ _ (simp (le-ltb _ _ (c .before .before .before .before .before .before .before .if1 .left), le-ltb _ _ (c .before .before .before .before .before .before .if2 .left), whole, le-ltb _ _ (c .if3 .taken)))
+    refused _ _ _ _ _ (simp (le-ltb _ _ (c .before .before .before .before .before .before .before .if1 .left), le-ltb _ _ (c .before .before .before .before .before .before .if2 .left), whole, le-ltb _ _ full))
 
 sub-build : tie.Need-sub-build
 sub-build c = search needs

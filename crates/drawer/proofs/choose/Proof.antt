@@ -2,10 +2,10 @@
 -- Assumes nothing.
 use mathlib.Core.Path.{_≡_, sym, ap, _∙_}
 use native.Mathlib.Omega.{arith}
-use lib.ListN.{take, drop, length-take, length-drop}
+use lib.ListN.{length-take, length-drop}
 use Rattle.rules.specs.Bytes.{entries}
 use Rattle.rules.specs.Drawer.{found, lost, findSays}
-use Rattle.rules.proofs.Drawer.{Within, found-within, part-to, look-own, look-empty, look-none, look-refused}
+use Rattle.rules.proofs.Drawer.{found-within, look-own, look-empty, look-none, look-refused}
 use Rattle.answers.specs.Said.{number}
 use Rattle.drawer.specs.Said.{saidFound}
 use borrow.Author.Needs.{needs}
@@ -22,33 +22,17 @@ enum-known-at c = search needs
 answered : (c : tie.After-known-told) → findSays (c .before .before .before .before .before .before .args .own .now) (c .before .before .before .before .before .before .args .r) ≡ found (c .before .at .given .0 .0) (c .before .at .given .0 .1 .0)
 answered c = sym (c .before .before .before .find .ensures) ∙ ap saidFound (c .before .at .given .1)
 
-within : (c : tie.After-known-told) → Within (c .before .before .before .before .before .before .args .own .now) (c .before .at .given .0 .0) (c .before .at .given .0 .1 .0)
-within c = found-within _ _ _ _ (answered c)
-
 refused : (c : tie.After-known-told2) → findSays (c .before .before .before .before .before .before .args .own .now) (c .before .before .before .before .before .before .args .r) ≡ lost (number (c .before .x .given .0 .0))
 refused c = sym (c .before .before .before .find .ensures) ∙ ap saidFound (c .before .x .given .1)
 
--- n of the own record
-entries-own : (c : tie.After-head) → c .head .result ≡ entries (take (c .before .before .before .at .given .0 .1 .0) (drop (c .before .before .before .at .given .0 .0) (c .before .before .before .before .before .before .before .before .args .own .now)))
-entries-own c = c .head .ensures ∙ ap entries (part-to (c .before .before .before .before .before .before .before .before .args .own .now) (c .before .before .before .at .given .0 .0) (c .before .before .before .at .given .0 .1 .0))
-
-add-end : tie.Need-add-end
-add-end c = omega (arith, within c)
-
-sub-head : tie.Need-sub-head
-sub-head c = search needs
-
-part-head-start : tie.Need-part-head-start
-part-head-start c = search needs
-
-part-head-end : tie.Need-part-head-end
-part-head-end c = omega (arith, within c)
+part-requires : tie.Need-part-requires
+part-requires c κs = omega (arith, found-within _ _ _ _ (answered c))
 
 head-requires : tie.Need-head-requires
-head-requires c κs = simp (length-take, length-drop) (omega (arith, within (c .before)))
+head-requires c κs = rw (c .part .ensures) (simp (length-take, length-drop) (omega (arith, found-within _ _ _ _ (answered (c .before)))))
 
 returns : tie.Need-returns
-returns c = sym (look-own _ _ _ (answered (c .before .before .before)) (omega (arith, entries-own (c .before))))
+returns c = sym (look-own _ _ _ (answered (c .before .before .before)) (omega (arith, c .before .head .ensures ∙ ap entries (c .before .before .part .ensures))))
 
 in-shared-requires : tie.Need-in-shared-requires
 in-shared-requires c κs = search needs
@@ -66,7 +50,7 @@ returns-2 : tie.Need-returns-2
 returns-2 c = c .in-shared2 .ensures ∙ sym (look-none _ _ _ (refused (c .before .before .before)) (sym (c .before .before .no-record .ensures) ∙ c .before .if2 .taken))
 
 returns-3 : tie.Need-returns-3
-returns-3 c = c .in-shared .ensures ∙ sym (look-empty _ _ _ (answered (c .before .before .before .before)) (omega (arith, entries-own (c .before .before))))
+returns-3 c = c .in-shared .ensures ∙ sym (look-empty _ _ _ (answered (c .before .before .before .before)) (omega (arith, c .before .before .head .ensures ∙ ap entries (c .before .before .before .part .ensures))))
 
 returns-4 : tie.Need-returns-4
 returns-4 c = sym (look-refused _ _ _ (refused (c .before .before)) (sym (c .before .no-record .ensures) ∙ c .if2 .left))
@@ -77,10 +61,7 @@ choose-spec =
     (tie.spec
     find-requires
     enum-known-at
-    add-end
-    sub-head
-    part-head-start
-    part-head-end
+    part-requires
     head-requires
     returns
     in-shared-requires

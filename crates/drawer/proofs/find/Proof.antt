@@ -27,7 +27,9 @@ returns c = simp (lt-ltb _ _ (c .if1 .taken))
 
 returns-2 : tie.Need-returns-2 Inv-loop μ-loop
 unfolding findSays
-returns-2 c = simp (le-ltb _ _ (c .before .if1 .left), le-ltb _ _ (c .if2 .taken))
+returns-2 c =
+    let many : 64 ≤ c .before .before .before .args .r = omega arith in
+    simp (le-ltb _ _ (c .before .if1 .left), le-ltb _ _ many)
 
 loop-holds : tie.Need-loop-holds Inv-loop μ-loop
 loop-holds c = (omega arith, sym (find-seek _ _ (c .before .if1 .left) (c .if2 .left)))
@@ -54,11 +56,11 @@ framed c = frame-rest (c .before .before .before .before .before .before .before
 within : (c : tie.After-known-told Inv-loop μ-loop) → c .before .before .before .before .before .before .loop .at + recordLength (c .before .n .given .0 .0) ≤ length (c .before .before .before .before .before .before .before .before .before .before .args .drawer .now)
 within c = frame-within _ _ _ (framed c)
 
-add-length : tie.Need-add-length Inv-loop μ-loop
-add-length c = omega (arith, within c)
+add-size : tie.Need-add-size Inv-loop μ-loop
+add-size c = omega (arith, within c)
 
-add-length-2 : tie.Need-add-length-2 Inv-loop μ-loop
-add-length-2 c = omega (arith, within c)
+add-size-2 : tie.Need-add-size-2 Inv-loop μ-loop
+add-size-2 c = omega (arith, within c)
 
 returns-3 : tie.Need-returns-3 Inv-loop μ-loop
 returns-3 c = sym (seek-here _ _ _ (framed (c .before))) ∙ rw (c .if3 .taken) at (c .before .before .before .before .before .before .before .loop .inv .1)
@@ -100,8 +102,8 @@ find-spec =
     part-frame-end
     frame-requires
     enum-known-n
-    add-length
-    add-length-2
+    add-size
+    add-size-2
     returns-3
     sub-left
     add-at

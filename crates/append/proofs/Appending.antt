@@ -16,15 +16,11 @@ use Rattle.answers.specs.Said.{number, said}
 use Rattle.build.specs.Builds.{Builds}
 use Rattle.append.specs.Appends.{Appends}
 
-pub refused : (b : List ℕ) (u : ℕ) (c w : List ℕ) (x : Refusal) → appendSays b u c (length w) ≡ refusal (number x) → Appends b u c w (Refused x) b w
-unfolding bufferAfter workAfterAppend
-refused b u c w x e = record { says = sym e; buffer = rw e; work = rw e }
-
 -- the tail comes back with these bytes
 abbrev pub back : List ℕ → ℕ → List ℕ → List ℕ
 back b u o = take u b ++ (o ++ drop (length b - u) (drop u b))
 
-pub tail-back : (b : List ℕ) (u : ℕ) (o : List ℕ) → back b u o ≡ take u b ++ o
+tail-back : (b : List ℕ) (u : ℕ) (o : List ℕ) → back b u o ≡ take u b ++ o
 tail-back b u o =
     rw (drop-of-length-le (drop u b) {i = length b - u} (omega (arith, length-drop u b)), append-nil)
 
@@ -63,3 +59,8 @@ module _ {b : List ℕ} {u k : ℕ} (ready : Ready b u k) {c w w′ o′ : List 
         buffer = rw says (tail-back b u o′ ∙ ap (λ o. take u b ++ o) (rw (← (whole .says)) at (whole .output)) ∙ take-append-drop u b);
         work = rw says (rw (← (whole .says)) at (whole .work));
       }
+
+-- a refusal changes nothing
+pub refused : (b : List ℕ) (u : ℕ) (c w : List ℕ) (x : Refusal) → appendSays b u c (length w) ≡ refusal (number x) → Appends b u c w (Refused x) b w
+unfolding bufferAfter workAfterAppend
+refused b u c w x e = record { says = sym e; buffer = rw e; work = rw e }

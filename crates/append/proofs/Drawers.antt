@@ -4,6 +4,7 @@ use mathlib.Core.Path.{_≡_, refl, sym, ap, _∙_}
 use Prim.Native.Nat.{ℕ, _+_, _-_, _≤_, _<_}
 use native.Mathlib.Omega.{arith}
 use mathlib.Core.List.{List, _++_, append-assoc}
+use borrow.Author.Tests.{le-ltb}
 use lib.ListN.{length, take, drop, length-append, length-take, length-drop}
 use lib.Seq.{take-all, take-at, drop-at, drop-drop, length-take-le, take-append-le, drop-append-le}
 use Rattle.rules.specs.Column.{Alike}
@@ -14,7 +15,7 @@ use Rattle.rules.specs.Order.{frameSays, buildSays, outputAfter, workAfter}
 use Rattle.rules.specs.Drawer.{mostBytes, mostRecords, Found, found, lost, findSays, partOf, handOut, own, shared, Look, part, nothing, lookSays, lookPart, whence, whichSays, recordsIn, appendSays, bufferAfter, workAfterAppend}
 use Rattle.rules.proofs.Checked.{framed-says}
 use Rattle.rules.proofs.Record.{record-length, record-entries}
-use Rattle.rules.proofs.Drawer.{found-within, find-seek, seek-before, seek-behind, Found-in, look-own, look-found, Records, records-are, records-behind, records-count, Ready, append-answers, build-answers}
+use Rattle.rules.proofs.Drawer.{found-within, find-seek, seek-before, seek-behind, Found-in, look-own, look-found, Records, records-are, records-behind, records-count, Ready, append-builds, append-answers, build-answers}
 use Rattle.theory.proofs.Agree.{alike-shapes}
 use Rattle.answers.proofs.Said.{said-once}
 use Rattle.drawer.proofs.Said.{found-once, whence-once}
@@ -148,9 +149,18 @@ module _ (b : List ℕ) (u : ℕ) (c w : List ℕ) (v k : ℕ) (g : Grown b u c 
         behind = behind;
       }
 
+accepted : (b : List ℕ) (u k : ℕ) (c w : List ℕ) → Ready b u k → length c ≤ most → recordLength (length c) ≤ length b - u → length c ≤ length w
+    → appendSays b u c (length w) ≡ answer (u + recordLength (length c))
+unfolding buildSays
+accepted b u k c w ready few room work =
+    rw (append-builds b u c (length w) ready, le-ltb most (length c) few, le-ltb (length b - u) (recordLength (length c)) room, le-ltb (length w) (length c) work)
+
 pub appending : Appending
 appending =
-    record { appended = λ b u c w v e. let (k, g) = grown b u c w v e in (k, appended b u c w v k g) }
+    record {
+      accepted = λ b u k c w short used whole free. accepted b u k c w (record { short = short; used = used; whole = whole; room = free });
+      appended = λ b u c w v e. let (k, g) = grown b u c w v e in (k, appended b u c w v k g);
+    }
 
 -- ---- the look and its question
 

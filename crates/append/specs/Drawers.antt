@@ -4,7 +4,7 @@ use Prim.Native.Nat.{ℕ, _+_, _-_, _≤_, _<_}
 use mathlib.Core.List.{List, []}
 use lib.ListN.{length, take, drop}
 use Rattle.rules.specs.Column.{Alike}
-use Rattle.rules.specs.Bytes.{columnRecord, entries}
+use Rattle.rules.specs.Bytes.{most, recordLength, columnRecord, entries}
 use Rattle.rules.specs.Refusal.{answer}
 use Rattle.rules.specs.Drawer.{mostBytes, mostRecords, found, lost, findSays, handOut, own, shared, lookSays, lookPart, Whence, stands, refusedBy, whichSays, recordsIn, appendSays, bufferAfter}
 use Rattle.answers.specs.declared.Answer.{Answer}
@@ -31,6 +31,9 @@ pub record Appended (b : List ℕ) (u : ℕ) (c w : List ℕ) (v k : ℕ) : Type
   pub behind : drop v (bufferAfter b u c w) ≡ drop v b
 
 pub record Appending : Type 0 where
+  -- append answers wherever buffer, records, column and work are as its rule asks
+  pub accepted : (b : List ℕ) (u k : ℕ) (c w : List ℕ) → length b ≤ mostBytes → u ≤ length b → recordsIn (take u b) ≡ answer k → k < mostRecords
+      → length c ≤ most → recordLength (length c) ≤ length b - u → length c ≤ length w → appendSays b u c (length w) ≡ answer (u + recordLength (length c))
   pub appended : (b : List ℕ) (u : ℕ) (c w : List ℕ) (v : ℕ) → appendSays b u c (length w) ≡ answer v → (k : ℕ) × Appended b u c w v k
 
 -- The question names the drawer of which the look's part is the hand-out, a record's four bytes at least; or a part of length 0, and the

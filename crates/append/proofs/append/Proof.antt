@@ -60,7 +60,10 @@ enum-known-length : tie.Need-enum-known-length
 enum-known-length c = search needs
 
 -- no check on the buffer has refused
-ready : (c : tie.Else3) → Ready (c .before .before .before .before .before .before .before .before .before .before .before .args .buffer .now) (c .before .before .before .before .before .before .before .before .before .before .before .args .used) (c .before .before .k .given .0 .0)
+abbrev start : tie.Else3 → tie.Start
+start c = c .before .before .before .before .before .before .before .before .before .before .before
+
+ready : (c : tie.Else3) → Ready (start c .args .buffer .now) (start c .args .used) (c .before .before .k .given .0 .0)
 ready c =
     record {
       short = c .before .before .before .before .before .before .before .if1 .left;

@@ -1,8 +1,9 @@
 -- `append::count` meets its contract. The loop's invariant: the count from this place on, begun at k, is the count of all; k is at
 -- most the place. The measure is what is left of the bytes. Assumes nothing.
 use mathlib.Core.Path.{_≡_, refl, sym, ap, _∙_}
-use Prim.Native.Nat.{_+_, _-_, _≤_}
+use Prim.Native.Nat.{ℕ, _+_, _-_, _≤_}
 use native.Mathlib.Omega.{arith}
+use mathlib.Core.List.{List}
 use lib.ListN.{length, drop}
 use Rattle.rules.specs.Refusal.{answer}
 use Rattle.rules.specs.Bytes.{recordLength}
@@ -40,11 +41,18 @@ frame-requires c κs = search needs
 enum-known-n : tie.Need-enum-known-n Inv-loop μ-loop
 enum-known-n c = search needs
 
--- the frame at the loop's place has answered
-framed : (c : tie.After-known-told Inv-loop μ-loop) → frameSays (drop (c .before .before .before .before .before .before .loop .at) (c .before .before .before .before .before .before .before .before .args .bytes .now)) ≡ answer (c .before .n .given .0 .0)
-framed c = frame-rest (c .before .before .before .before .before .before .before .before .args .bytes .now) (c .before .before .before .before .before .before .loop .at) (ap said (c .before .n .given .1)) (c .before .before .before .frame .ensures)
+-- the loop's state in a turn in which the frame answers, and the bytes
+abbrev turn : tie.After-known-told Inv-loop μ-loop → tie.At-loop Inv-loop μ-loop
+turn c = c .before .before .before .before .before .before
 
-within : (c : tie.After-known-told Inv-loop μ-loop) → c .before .before .before .before .before .before .loop .at + recordLength (c .before .n .given .0 .0) ≤ length (c .before .before .before .before .before .before .before .before .args .bytes .now)
+abbrev bytes : tie.At-loop Inv-loop μ-loop → List ℕ
+bytes t = t .before .before .args .bytes .now
+
+framed : (c : tie.After-known-told Inv-loop μ-loop) → frameSays (drop (turn c .loop .at) (bytes (turn c))) ≡ answer (c .before .n .given .0 .0)
+framed c =
+    frame-rest (bytes (turn c)) (turn c .loop .at) (ap said (c .before .n .given .1)) (c .before .before .before .frame .ensures)
+
+within : (c : tie.After-known-told Inv-loop μ-loop) → turn c .loop .at + recordLength (c .before .n .given .0 .0) ≤ length (bytes (turn c))
 within c = frame-within _ _ _ (framed c)
 
 add-at : tie.Need-add-at Inv-loop μ-loop
@@ -63,16 +71,21 @@ loop-less : tie.Need-loop-less Inv-loop μ-loop
 loop-less c = omega (arith, within c)
 
 loop-again : tie.Need-loop-again Inv-loop μ-loop
-loop-again c = (within c, omega arith, sym (records-more (c .before .before .before .before .before .before .before .before .args .bytes .now) (c .before .before .before .before .before .before .loop .at) _ _ (framed c)) ∙ c .before .before .before .before .before .before .loop .inv .2)
+loop-again c =
+    let t = turn c in
+    (within c, omega arith, sym (records-more (bytes t) (t .loop .at) _ _ (framed c)) ∙ t .loop .inv .2)
 
 enum-told : tie.Need-enum-told Inv-loop μ-loop
 enum-told c = search needs
 
 returns : tie.Need-returns Inv-loop μ-loop
-returns c = sym (records-fault _ _ _ _ (c .before .before .before .before .loop-test .taken) (frame-rest (c .before .before .before .before .before .before .before .args .bytes .now) (c .before .before .before .before .before .loop .at) (ap said (c .enum-told .given .1)) (c .before .before .frame .ensures))) ∙ c .before .before .before .before .before .loop .inv .2
+returns c =
+    let t = c .before .before .before .before .before in
+    let fault = frame-rest (bytes t) (t .loop .at) (ap said (c .enum-told .given .1)) (c .before .before .frame .ensures) in
+    sym (records-fault _ _ _ _ (c .before .before .before .before .loop-test .taken) fault) ∙ t .loop .inv .2
 
 returns-2 : tie.Need-returns-2 Inv-loop μ-loop
-returns-2 c = sym (records-end (c .before .before .before .args .bytes .now) _ _ (c .loop-test .left)) ∙ c .before .loop .inv .2
+returns-2 c = sym (records-end (bytes (c .before)) _ _ (c .loop-test .left)) ∙ c .before .loop .inv .2
 
 pub count-spec : {M : Type 1} → statement M
 count-spec =

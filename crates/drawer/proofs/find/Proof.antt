@@ -1,8 +1,9 @@
 -- `drawer::find` meets its contract. The loop's invariant: what is sought from this place on, with the records left to pass, is what find
 -- says. The measure is what is left of the drawer. Assumes nothing.
 use mathlib.Core.Path.{_≡_, sym, ap, _∙_}
-use Prim.Native.Nat.{suc, _+_, _-_, _≤_}
+use Prim.Native.Nat.{ℕ, suc, _+_, _-_, _≤_}
 use native.Mathlib.Omega.{arith}
+use mathlib.Core.List.{List}
 use lib.ListN.{length, drop}
 use borrow.Author.Tests.{lt-ltb, le-ltb}
 use borrow.Author.Needs.{needs}
@@ -49,12 +50,23 @@ frame-requires c κs = search needs
 enum-known-n : tie.Need-enum-known-n Inv-loop μ-loop
 enum-known-n c = search needs
 
--- the frame at the loop's place has answered
-framed : (c : tie.After-known-told Inv-loop μ-loop) → frameSays (drop (c .before .before .before .before .before .before .loop .at) (c .before .before .before .before .before .before .before .before .before .before .args .drawer .now)) ≡ answer (c .before .n .given .0 .0)
-framed c = frame-rest (c .before .before .before .before .before .before .before .before .before .before .args .drawer .now) (c .before .before .before .before .before .before .loop .at) (ap said (c .before .n .given .1)) (c .before .before .before .frame .ensures)
+-- the loop's state in a turn in which the frame answers, and the drawer
+abbrev turn : tie.After-known-told Inv-loop μ-loop → tie.At-loop Inv-loop μ-loop
+turn c = c .before .before .before .before .before .before
 
-within : (c : tie.After-known-told Inv-loop μ-loop) → c .before .before .before .before .before .before .loop .at + recordLength (c .before .n .given .0 .0) ≤ length (c .before .before .before .before .before .before .before .before .before .before .args .drawer .now)
+abbrev drawer : tie.At-loop Inv-loop μ-loop → List ℕ
+drawer t = t .before .before .before .before .args .drawer .now
+
+framed : (c : tie.After-known-told Inv-loop μ-loop) → frameSays (drop (turn c .loop .at) (drawer (turn c))) ≡ answer (c .before .n .given .0 .0)
+framed c =
+    frame-rest (drawer (turn c)) (turn c .loop .at) (ap said (c .before .n .given .1)) (c .before .before .before .frame .ensures)
+
+within : (c : tie.After-known-told Inv-loop μ-loop) → turn c .loop .at + recordLength (c .before .n .given .0 .0) ≤ length (drawer (turn c))
 within c = frame-within _ _ _ (framed c)
+
+-- the invariant, with the records left to pass written another way
+sought : (t : tie.At-loop Inv-loop μ-loop) {left : ℕ} → t .loop .left ≡ left → seek (drawer t) left (t .loop .at) ≡ findSays (drawer t) (t .before .before .before .before .args .r)
+sought t e = ap (λ k. seek (drawer t) k (t .loop .at)) (sym e) ∙ t .loop .inv .1
 
 add-size : tie.Need-add-size Inv-loop μ-loop
 add-size c = omega (arith, within c)
@@ -63,7 +75,7 @@ add-size-2 : tie.Need-add-size-2 Inv-loop μ-loop
 add-size-2 c = omega (arith, within c)
 
 returns-3 : tie.Need-returns-3 Inv-loop μ-loop
-returns-3 c = sym (seek-here _ _ _ (framed (c .before))) ∙ rw (c .if3 .taken) at (c .before .before .before .before .before .before .before .loop .inv .1)
+returns-3 c = sym (seek-here _ _ _ (framed (c .before))) ∙ sought (turn (c .before)) (c .if3 .taken)
 
 sub-left : tie.Need-sub-left Inv-loop μ-loop
 sub-left c = omega arith
@@ -76,14 +88,18 @@ loop-less c = omega (arith, within (c .before))
 
 loop-again : tie.Need-loop-again Inv-loop μ-loop
 loop-again c =
-    let on : c .before .before .before .before .before .before .before .loop .left ≡ suc (c .before .before .before .before .before .before .before .loop .left - 1) = omega arith in
-    (within (c .before), sym (seek-on _ _ _ (framed (c .before)) _) ∙ rw on at (c .before .before .before .before .before .before .before .loop .inv .1))
+    let t = turn (c .before) in
+    let one : t .loop .left ≡ suc (t .loop .left - 1) = omega arith in
+    (within (c .before), sym (seek-on _ _ _ (framed (c .before)) _) ∙ sought t one)
 
 enum-known-x : tie.Need-enum-known-x Inv-loop μ-loop
 enum-known-x c = search needs
 
 returns-4 : tie.Need-returns-4 Inv-loop μ-loop
-returns-4 c = sym (seek-fault _ _ _ _ (c .before .before .before .before .before .loop-test .taken) (frame-rest (c .before .before .before .before .before .before .before .before .before .before .args .drawer .now) (c .before .before .before .before .before .before .loop .at) (ap said (c .before .x .given .1)) (c .before .before .before .frame .ensures))) ∙ c .before .before .before .before .before .before .loop .inv .1
+returns-4 c =
+    let t = c .before .before .before .before .before .before in
+    let fault = frame-rest (drawer t) (t .loop .at) (ap said (c .before .x .given .1)) (c .before .before .before .frame .ensures) in
+    sym (seek-fault _ _ _ _ (c .before .before .before .before .before .loop-test .taken) fault) ∙ t .loop .inv .1
 
 returns-5 : tie.Need-returns-5 Inv-loop μ-loop
 returns-5 c = sym (seek-end _ _ _ (c .loop-test .left)) ∙ c .before .loop .inv .1

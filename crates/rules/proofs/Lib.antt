@@ -7,6 +7,8 @@ pub mod StandIn
 pub mod Bits
 pub mod Bytes
 pub mod Same
+pub mod Parts
+pub mod Counted
 pub mod Every
 pub mod Checked
 pub mod Record

@@ -70,7 +70,8 @@ fn part(drawer: &[u8], at: usize, size: usize) -> &[u8]
     &drawer[at..end]
 }
 
-// The hand-out of record r: exactly that part of the drawer, or a part of length 0 where find refuses.
+// The hand-out of record r: exactly that part of the drawer, or a part of length 0 where find refuses. It
+// takes a number of steps in proportion to r, and copies nothing.
 pub fn hand_out(drawer: &[u8], r: usize) -> &[u8]
     ensures { λ p. ⌜ now p ≡ handOut (now (drawer .entry)) r ⌝ }
 {
@@ -80,6 +81,7 @@ pub fn hand_out(drawer: &[u8], r: usize) -> &[u8]
     }
 }
 
+// Whether a refusal is 10.
 fn no_record(x: Refusal) -> bool
     ensures { λ t. ⌜ t ≡ eqb (number x) 10 ⌝ }
 {
@@ -89,6 +91,7 @@ fn no_record(x: Refusal) -> bool
     }
 }
 
+// What find says in the shared drawer.
 fn in_shared(shared: &[u8], r: usize) -> Choice
     ensures { λ x. ⌜ saidChoice x ≡ inShared (findSays (now (shared .entry)) r) ⌝ }
 {

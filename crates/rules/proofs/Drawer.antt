@@ -87,7 +87,7 @@ found-within d r p l e = seek-within d r 0 p l (sought (ltb mostBytes (length d)
 
 -- ---- the look
 
--- the document's three sentences, the last two of them by the two ways that lead to the shared drawer
+-- the document's three sentences, the second of them by its two ways: own find says 10, or its n is 0
 module _ (d s : List ℕ) (r : ℕ) where
   pub look-own : {p l : ℕ} → findSays d r ≡ found p l → 0 < entries (take l (drop p d)) → lookSays d s r ≡ part own p l
   unfolding lookSays

@@ -1,3 +1,4 @@
 pub mod Beats
 pub mod Parts
 pub mod Closings
+pub mod Ours

@@ -26,7 +26,7 @@ fn run(st: Scan, t: &[i8; 768], part: &[u8], at: usize, stop: usize) -> Scan
 }
 
 // The byte with which block k ends.
-fn end_of(body: &[u8], k: usize) -> usize
+pub fn end_of(body: &[u8], k: usize) -> usize
     requires { ⌜ k ≤ 255 ⌝ }
     ensures { λ r. ⌜ r ≡ endOf (now (body .entry)) k ⌝ }
 {

@@ -2,3 +2,4 @@ pub mod Beats
 pub mod Parts
 pub mod Closings
 pub mod Ours
+pub mod Standing

@@ -1,32 +1,29 @@
+-- `quick::leaf` meets its contract.
+-- Assumes nothing.
+use mathlib.Core.Path.{refl}
+use Prim.Native.Nat.{_+_}
+use native.Mathlib.Omega.{arith}
 use borrow.Author.Needs.{needs}
 use Rattle.quick.proofs.leaf.Statement.{statement}
 use Rattle.quick.proofs.leaf.Tie as tie
-use Rattle.quick.proofs.leaf.Reads as reads
-use Rattle.quick.proofs.leaf.Lts as lts
 
--- src/lib.rt:45:17
 add-result : tie.Need-add-result
 add-result c = search needs
 
--- src/lib.rt:45:15
 mul-result : tie.Need-mul-result
 mul-result c = search needs
 
--- src/lib.rt:45:15
 shared-slice-read-result : tie.Need-shared-slice-read-result
 shared-slice-read-result c = search needs
 
--- src/lib.rt:45:15
 cast-result : tie.Need-cast-result
-cast-result c = ?
+cast-result c = omega (arith, c .shared-slice-known .given (512 + c .before .args .k))
 
--- src/lib.rt:45:5
 add-result-2 : tie.Need-add-result-2
-add-result-2 c = ?
+add-result-2 c = omega (arith, c .shared-slice-known .given (512 + c .before .args .k))
 
--- src/lib.rt:41:1
 returns : tie.Need-returns
-returns c = ?
+returns c = (refl, omega (arith, c .shared-slice-known .given (512 + c .before .args .k)))
 
 pub leaf-spec : {M : Type 1} → statement M
 leaf-spec =

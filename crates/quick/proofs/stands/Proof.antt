@@ -1,95 +1,104 @@
+-- `quick::stands` meets its contract: by the excess before the block and the block's bits.
+-- Assumes nothing.
+use mathlib.Core.Path.{_≡_, refl, sym, subst, _∙_}
+use mathlib.Core.Logic.{inl, inr}
+use Prim.Native.Nat.{ℕ, _+_, _-_, _*_, _/_, _<_}
+use native.Mathlib.Omega.{arith}
+use lib.ListN.{take, drop}
+use mathlib.Core.List.{List}
+use Rattle.rules.specs.Bytes.{allBits}
+use Rattle.blocks.specs.Select.{selectOf}
+use Rattle.quick.specs.Part.{endOf}
+use Rattle.quick.proofs.Standing.{before-small, selected, not-before, right-there}
 use borrow.Author.Needs.{needs}
 use Rattle.quick.proofs.stands.Statement.{statement}
 use Rattle.quick.proofs.stands.Tie as tie
-use Rattle.quick.proofs.stands.Reads as reads
-use Rattle.quick.proofs.stands.Lts as lts
-use Rattle.blocks.proofs.before.Reads as before-reads
-use Rattle.blocks.proofs.select.Reads as select-reads
-use Rattle.quick.proofs.part.end_of.Reads as end-of-reads
 
--- src/lib.rt:54:9
+-- what select was lent is the block
+chosen : (body : List ℕ) (k end m x : ℕ) → end ≡ endOf body k → x ≡ selectOf (allBits (take (end - 32 * k) (drop (32 * k) body))) m
+    → x ≡ selectOf (allBits (take (endOf body k - 32 * k) (drop (32 * k) body))) m
+chosen body k end m x e f = rw e at f
+
 before-requires : tie.Need-before-requires
 before-requires c κs = search needs
 
--- src/lib.rt:55:8
 mul-if1 : tie.Need-mul-if1
 mul-if1 c = search needs
 
--- src/lib.rt:55:8
 add-if1 : tie.Need-add-if1
-add-if1 c = ?
+add-if1 c = omega (arith, before-small (c .before2 .ensures) (λ m. omega (arith, c .before .shared-slice-known2 .given m)))
 
--- src/lib.rt:55:20
 mul-if1-2 : tie.Need-mul-if1-2
 mul-if1-2 c = search needs
 
--- src/lib.rt:56:9
 returns : tie.Need-returns
-returns c = ?
+returns c =
+    let start = c .before .before .before .before in
+    let a = start .args in
+    record { there = inl refl; right = λ n ours among at. absurd (omega (arith, not-before (a .body .now) (a .t .now) n (a .k) (a .i) ours among at (c .before .before2 .result) (c .before .before2 .ensures))) }
 
--- src/lib.rt:58:16
 mul-from : tie.Need-mul-from
 mul-from c = search needs
 
--- src/lib.rt:59:9
 end-of-requires : tie.Need-end-of-requires
 end-of-requires c κs = search needs
 
--- src/lib.rt:60:28
 sub-select : tie.Need-sub-select
 sub-select c = search needs
 
--- src/lib.rt:60:28
 part-select-start : tie.Need-part-select-start
 part-select-start c = search needs
 
--- src/lib.rt:60:28
 part-select-end : tie.Need-part-select-end
 part-select-end c = search needs
 
--- src/lib.rt:60:47
 mul-select : tie.Need-mul-select
 mul-select c = search needs
 
--- src/lib.rt:60:47
 add-select : tie.Need-add-select
-add-select c = ?
+add-select c = omega (arith, before-small (c .before .before .before .before2 .ensures) (λ m. omega (arith, c .before .before .before .before .shared-slice-known2 .given m)))
 
--- src/lib.rt:60:59
 mul-select-2 : tie.Need-mul-select-2
 mul-select-2 c = search needs
 
--- src/lib.rt:60:47
 sub-select-2 : tie.Need-sub-select-2
 sub-select-2 c = search needs
 
--- src/lib.rt:60:9
 select-requires : tie.Need-select-requires
 select-requires c κs = search needs
 
--- src/lib.rt:61:13
 sub-if2 : tie.Need-sub-if2
 sub-if2 c = search needs
 
--- src/lib.rt:61:8
 mul-if2 : tie.Need-mul-if2
 mul-if2 c = search needs
 
--- src/lib.rt:62:9
 returns-2 : tie.Need-returns-2
-returns-2 c = ?
+returns-2 c =
+    let start = c .before .before .before .before .before .before .before .before in
+    let a = start .args in
+    let e = c .before .before .before .end-of .ensures in
+    record {
+      there = inl refl;
+      right = λ n ours among at. absurd (omega (arith, right-there (a .body .now) (a .t .now) n (a .k) (a .i) ours among at (c .before .before .before .before .before .before2 .result) (c .before .before .before .before .before .before2 .ensures) (start .pre .1) (c .before .select .result) (chosen (a .body .now) (a .k) _ _ _ e (c .before .select .ensures)) .0))
+    }
 
--- src/lib.rt:64:5
 mul-result : tie.Need-mul-result
 mul-result c = search needs
 
--- src/lib.rt:64:5
 add-result : tie.Need-add-result
 add-result c = search needs
 
--- src/lib.rt:50:1
 returns-3 : tie.Need-returns-3
-returns-3 c = ?
+returns-3 c =
+    let start = c .before .before .before .before .before .before .before .before in
+    let a = start .args in
+    let e = c .before .before .before .end-of .ensures in
+    let x = chosen (a .body .now) (a .k) _ _ _ e (c .before .select .ensures) in
+    record {
+      there = inr (selected (a .body .now) (a .k) (start .pre .1) _ (c .before .select .result) x (omega arith));
+      right = λ n ours among at. right-there (a .body .now) (a .t .now) n (a .k) (a .i) ours among at (c .before .before .before .before .before .before2 .result) (c .before .before .before .before .before .before2 .ensures) (start .pre .1) (c .before .select .result) x .1
+    }
 
 pub stands-spec : {M : Type 1} → statement M
 stands-spec =

@@ -13,7 +13,7 @@ use Rattle.rules.specs.Shape.{Paren}
 use Rattle.rules.specs.Excess.{openings, closings, closingPlace, excess, excesses, Balanced}
 use Rattle.rules.specs.Bytes.{most}
 use Rattle.rules.specs.Summary.{slots, none, blocksFor, inBlock, lastOf, smallestOf, blockEnd, leaf, nodeOf, node, closingBlock, slot, summaryOf}
-use Rattle.rules.proofs.Excess.{length-listOf, getD-listOf, excesses-length, excesses-at, openings-append, counts-length}
+use Rattle.rules.proofs.Excess.{length-listOf, getD-listOf, excesses-length, excesses-at, excesses-take, excesses-drop, openings-append, counts-length}
 
 -- ---- 896 slots
 
@@ -116,6 +116,13 @@ pub excess-few : (s : List Paren) (b : ℕ) → excess 0 s b ≤ openings s
 unfolding excess
 excess-few s b =
     omega (arith, openings-append (take (b + 1) s) (drop (b + 1) s), ap openings (take-append-drop (b + 1) s))
+
+-- a block's excesses are those of its own parentheses, from the excess before it on
+pub block-alone : (s : List Paren) (k e : ℕ) → e + closings (take (256 * k) s) ≡ openings (take (256 * k) s)
+    → inBlock s k ≡ excesses e (take 256 (drop (256 * k) s))
+unfolding inBlock
+block-alone s k e h =
+    rw (excesses-drop 0 e s (256 * k) (omega arith), excesses-take)
 
 -- ---- the blocks of n entries' parentheses
 

@@ -1,11 +1,11 @@
 -- Laws of the scan: one stretch after another, and how far a stretch can carry a state.
 -- Assumes nothing.
-use mathlib.Core.Path.{_≡_, refl, ap, _∙_}
+use mathlib.Core.Path.{_≡_, refl, ap, sym, _∙_}
 use Prim.Native.Nat.{ℕ, zero, suc, pred, min, _+_, _*_, _≤_, _<_}
 use native.Mathlib.Nat.{add-zero, add-suc, suc-add, zero-add, le-refl, le-trans}
 use native.Mathlib.Omega.{arith}
 use mathlib.Core.Bool.{Bool, true, false, cond}
-use mathlib.Core.List.{List, [], _∷_, _++_, append-nil}
+use mathlib.Core.List.{List, [], _∷_, _++_, append-nil, append-assoc}
 use borrow.Author.Tests.{ltb-true, ltb-false, le-ltb}
 use lib.Dec.{ltb}
 use native.Mathlib.Numerals.{add-one}
@@ -185,3 +185,10 @@ scanned-more st at k bs h =
   where
     one : (b : ℕ) → allBits (b ∷ []) ≡ lowBits 8 b
     one b = append-nil (lowBits 8 b)
+
+-- bytes, and one more byte whose bits are those of l and then openings
+pub scan-opened : (st x y : Scan) (p : ℕ) (bs : List ℕ) (b u : ℕ) (l : List Paren) → x ≡ scanOf st p (allBits bs)
+    → lowBits 8 b ≡ l ++ replicate u opening → y ≡ scanOf x (p + 8 * length bs) (lowBits 8 b)
+    → y ≡ scanOf st p ((allBits bs ++ l) ++ replicate u opening)
+scan-opened st x y p bs b u l e f g =
+    g ∙ rw (e, f, ← allBits-length bs, append-assoc) (sym (scan-append st p (allBits bs) (l ++ replicate u opening)))

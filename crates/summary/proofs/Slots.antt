@@ -1,0 +1,110 @@
+-- One number stored: what the slots held before, and what they hold after it.
+-- Assumes nothing.
+use mathlib.Core.Path.{_≡_, refl, sym, _∙_}
+use Prim.Native.Nat.{ℕ, _+_, _-_, _*_, _/_, _≤_, _<_}
+use native.Mathlib.Decide.{ℕ-discrete, decLt}
+use native.Mathlib.Omega.{arith}
+use mathlib.Core.Bool.{Bool, true, false, cond}
+use mathlib.Core.List.{List}
+use borrow.Author.Tests.{lt-ltb, le-ltb, ltb-true, ltb-false}
+use lib.Dec.{ltb}
+use lib.ListN.{length, getD, set, length-set}
+use lib.Seq.{getD-set-same, getD-set-other, drop-set-lt}
+use Rattle.rules.specs.Shape.{Paren}
+use Rattle.rules.specs.Excess.{closingPlace}
+use Rattle.rules.specs.Bytes.{most}
+use Rattle.rules.specs.Summary.{slots, blockEnd, leaf}
+use Rattle.rules.proofs.ClosingPlace.{closings-more, closings-few, closings-part, closing-behind, closing-among}
+use Rattle.summary.specs.Laid.{Holds, laid, closed, laidTo, noted}
+
+-- a number stored at y
+pub stored : {f : ℕ → ℕ} {t₀ t : List ℕ} (g : ℕ → ℕ) (y v : ℕ) → Holds f t₀ t → y < slots → slots ≤ length t₀ → g y ≡ v
+    → ((x : ℕ) → x < slots → (x ≡ y → ⊥) → g x ≡ f x) → Holds g t₀ (set t y v)
+stored {f} {t₀} {t} g y v h l room here there =
+    record {
+      size = length-set t y v ∙ h .size;
+      first = λ x a. at x a (ℕ-discrete x y);
+      rest = drop-set-lt slots t y v l ∙ h .rest;
+    }
+  where
+    at : (x : ℕ) → x < slots → Dec (x ≡ y) → getD (set t y v) x 0 ≡ g x
+    at x a (yes e) = rw e (getD-set-same t y v 0 (omega (arith, h .size)) ∙ sym here)
+    at x a (no n) = getD-set-other t y x v 0 n ∙ h .first x a ∙ sym (there x a n)
+
+-- the same slots by another rule
+pub held : {f : ℕ → ℕ} {t₀ t : List ℕ} (g : ℕ → ℕ) → Holds f t₀ t → ((x : ℕ) → x < slots → g x ≡ f x) → Holds g t₀ t
+held g h e =
+    record { size = h .size; first = λ x a. h .first x a ∙ sym (e x a); rest = h .rest }
+
+-- ---- a block's numbers
+
+-- two limits that x is below or not below together
+same-test : (x a b : ℕ) → (x < a → x < b) → (x < b → x < a) → ltb x a ≡ ltb x b
+same-test x a b f g = by (decLt x a)
+  where
+    by : Dec (x < a) → ltb x a ≡ ltb x b
+    by (yes l) = lt-ltb x a l ∙ sym (lt-ltb x b (f l))
+    by (no n) = le-ltb x a (omega arith) ∙ sym (le-ltb x b (let h : x < b → ⊥ = λ l. n (g l) in omega arith))
+
+module _ (s : List Paren) {t₀ : List ℕ} (room : slots ≤ length t₀) where
+  end-laid : {t : List ℕ} (k l c : ℕ) → k < 256 → Holds (laid s k l c) t₀ t → Holds (laid s (k + 1) l c) t₀ (set t k (blockEnd s k))
+  unfolding laid
+  end-laid k l c small h =
+      stored (laid s (k + 1) l c) k (blockEnd s k) h (omega arith) room
+      (rw (lt-ltb k 256 small, lt-ltb k (k + 1) (omega arith)))
+      (λ x a n. rw (same-test x (k + 1) k (λ b. omega arith) (λ b. omega arith)))
+
+  leaf-laid : {t : List ℕ} (k a c : ℕ) → k < 256 → Holds (laid s a k c) t₀ t → Holds (laid s a (k + 1) c) t₀ (set t (512 + k) (leaf s k))
+  unfolding laid
+  leaf-laid k a c small h =
+      stored (laid s a (k + 1) c) (512 + k) (leaf s k) h (omega arith) room here (λ x l n. there x n (ltb x 512) refl)
+    where
+      here : laid s a (k + 1) c (512 + k) ≡ leaf s k
+      here =
+          let e : 512 + k - 512 ≡ k = omega arith in
+          rw (le-ltb (512 + k) 256 (omega arith), le-ltb (512 + k) 512 (omega arith), lt-ltb (512 + k) 768 (omega arith), e, lt-ltb k (k + 1) (omega arith))
+
+      there : (x : ℕ) → (x ≡ 512 + k → ⊥) → (b : Bool) → ltb x 512 ≡ b → laid s a (k + 1) c x ≡ laid s a k c x
+      there x n true e = rw e
+      there x n false e =
+          let l = ltb-false x 512 e in
+          rw (same-test (x - 512) (k + 1) k (λ b. omega arith) (λ b. omega arith))
+
+  -- of the closings c to d - 1, 256 at most, one at most has a slot; all stand in block k
+  closing-laid : {t : List ℕ} (k a l c d : ℕ) → c ≤ d → d ≤ c + 256 → d ≤ most → ((i : ℕ) → c ≤ i → i < d → closingPlace s i / 256 ≡ k)
+      → Holds (laid s a l c) t₀ t → Holds (laid s a l d) t₀ (cond (ltb (256 * ((c + 255) / 256)) d) (set t (768 + (c + 255) / 256) k) t)
+  unfolding laid
+  closing-laid {t} k a l c d some near few block h = by (ltb (256 * y) d) refl
+    where
+      y : ℕ
+      y = (c + 255) / 256
+
+      there : (x : ℕ) → (x ≡ 768 + y → ⊥) → (b : Bool) → ltb x 768 ≡ b → laid s a l d x ≡ laid s a l c x
+      there x n true e = rw e
+      there x n false e =
+          let g = ltb-false x 768 e in
+          rw (same-test (256 * (x - 768)) d c (λ b. omega arith) (λ b. omega arith))
+
+      by : (b : Bool) → ltb (256 * y) d ≡ b → Holds (laid s a l d) t₀ (cond b (set t (768 + y) k) t)
+      by true e =
+          let g = ltb-true (256 * y) d e in
+          let f : 768 + y - 768 ≡ y = omega arith in
+          stored (laid s a l d) (768 + y) k h (omega arith) room
+          (rw (le-ltb (768 + y) 256 (omega arith), le-ltb (768 + y) 512 (omega arith), le-ltb (768 + y) 768 (omega arith), f, e) (block (256 * y) (omega arith) g))
+          (λ x u n. there x n (ltb x 768) refl)
+      by false e =
+          let g = ltb-false (256 * y) d e in
+          held (laid s a l d) h (λ x u. rw (same-test (256 * (x - 768)) d c (λ b. omega arith) (λ b. omega arith)))
+
+  -- all that block k gives
+  pub block-laid : {t : List ℕ} (k : ℕ) → k < 256 → closed s (k + 1) ≤ most → Holds (laidTo s k) t₀ t
+      → Holds (laidTo s (k + 1)) t₀ (noted t k (closed s k) (closed s (k + 1)) (blockEnd s k) (leaf s k))
+  block-laid k small few h =
+      let e : 256 * (k + 1) ≡ 256 * k + 256 = omega arith in
+      let near : closed s (k + 1) ≤ closed s k + 256 = rw e (closings-few s (256 * k) 256) in
+      closing-laid k (k + 1) (k + 1) (closed s k) (closed s (k + 1)) (closings-more s (256 * k) (256 * (k + 1)) (omega arith)) near few (λ i from upto. within i from upto)
+      (leaf-laid k (k + 1) (closed s k) small (end-laid k k (closed s k) small h))
+    where
+      within : (i : ℕ) → closed s k ≤ i → i < closed s (k + 1) → closingPlace s i / 256 ≡ k
+      within i from upto =
+          omega (arith, closing-behind s i (256 * k) from (omega (arith, closings-part s (256 * (k + 1)))), closing-among s i (256 * (k + 1)) upto)

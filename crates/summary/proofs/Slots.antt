@@ -1,19 +1,19 @@
 -- One number stored: what the slots held before, and what they hold after it.
 -- Assumes nothing.
-use mathlib.Core.Path.{_≡_, refl, sym, _∙_}
+use mathlib.Core.Path.{_≡_, refl, ap, sym, subst, _∙_}
 use Prim.Native.Nat.{ℕ, _+_, _-_, _*_, _/_, _≤_, _<_}
 use native.Mathlib.Decide.{ℕ-discrete, decLt}
 use native.Mathlib.Omega.{arith}
 use mathlib.Core.Bool.{Bool, true, false, cond}
-use mathlib.Core.List.{List}
+use mathlib.Core.List.{List, _++_}
 use borrow.Author.Tests.{lt-ltb, le-ltb, ltb-true, ltb-false}
 use lib.Dec.{ltb}
-use lib.ListN.{length, getD, set, length-set}
-use lib.Seq.{getD-set-same, getD-set-other, drop-set-lt}
+use lib.ListN.{length, drop, getD, set, replicate, length-append, length-drop, length-set, length-replicate, getD-replicate, List·getD-append}
+use lib.Seq.{getD-set-same, getD-set-other, drop-set-lt, drop-at}
 use Rattle.rules.specs.Shape.{Paren}
 use Rattle.rules.specs.Excess.{closingPlace}
 use Rattle.rules.specs.Bytes.{most}
-use Rattle.rules.specs.Summary.{slots, blockEnd, leaf}
+use Rattle.rules.specs.Summary.{slots, none, blockEnd, leaf}
 use Rattle.rules.proofs.ClosingPlace.{closings-more, closings-few, closings-part, closing-behind, closing-among}
 use Rattle.summary.specs.Laid.{Holds, laid, closed, laidTo, noted}
 
@@ -35,6 +35,16 @@ stored {f} {t₀} {t} g y v h l room here there =
 pub held : {f : ℕ → ℕ} {t₀ t : List ℕ} (g : ℕ → ℕ) → Holds f t₀ t → ((x : ℕ) → x < slots → g x ≡ f x) → Holds g t₀ t
 held g h e =
     record { size = h .size; first = λ x a. h .first x a ∙ sym (e x a); rest = h .rest }
+
+-- 65,535 in the first 896
+pub blanked : {t₀ t : List ℕ} (x : ℕ) → x ≡ slots → slots ≤ length t₀ → t ≡ replicate x none ++ drop x t₀ → Holds (λ y. none) t₀ t
+blanked {t₀} {t} x e room f =
+    let n = length-replicate x none in
+    record {
+      size = ap length f ∙ simp (length-append, length-drop) (omega arith);
+      first = λ y l. rw (f, List·getD-append (replicate x none) (drop x t₀) 0 y (omega arith)) (getD-replicate x y none 0 (omega arith));
+      rest = rw f (subst (λ (m : ℕ). drop m (replicate x none ++ drop x t₀) ≡ drop m t₀) e (drop-at (replicate x none) (drop x t₀) x n));
+    }
 
 -- ---- a block's numbers
 

@@ -4,8 +4,8 @@ use answers::Refusal;
 use scan::Scan;
 ghost use mathlib.Core.Path.{_≡_};
 ghost use Prim.Native.Nat.{ℕ, min, _+_, _*_, _/_, _≤_, _<_};
-ghost use mathlib.Core.List.{List, _++_};
-ghost use lib.ListN.{length, drop, replicate};
+ghost use mathlib.Core.List.{List};
+ghost use lib.ListN.{length};
 ghost use Rattle.rules.specs.Shape.{Paren};
 ghost use Rattle.rules.specs.Bytes.{most, parens};
 ghost use Rattle.rules.specs.Summary.{slots, none, blocksFor, slot};
@@ -38,7 +38,7 @@ pub fn fill(bytes: &[u8], summary: &mut [u16]) -> Answer
 // No block, no closing: 65,535 in each slot.
 fn blank(summary: &mut [u16])
     requires { ⌜ slots ≤ length (now summary) ⌝ }
-    ensures { λ _. ⌜ now (summary .exit) ≡ replicate slots none ++ drop slots (now (summary .entry)) ⌝ }
+    ensures { λ _. ⌜ Holds (λ x. none) (now (summary .entry)) (now (summary .exit)) ⌝ }
 {
     let mut x = 0;
     while x < 896 {

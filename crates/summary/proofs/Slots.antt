@@ -49,7 +49,7 @@ blanked {t₀} {t} x e room f =
 -- ---- a block's numbers
 
 -- two limits that x is below or not below together
-same-test : (x a b : ℕ) → (x < a → x < b) → (x < b → x < a) → ltb x a ≡ ltb x b
+pub same-test : (x a b : ℕ) → (x < a → x < b) → (x < b → x < a) → ltb x a ≡ ltb x b
 same-test x a b f g = by (decLt x a)
   where
     by : Dec (x < a) → ltb x a ≡ ltb x b

@@ -70,3 +70,7 @@ noted t k c d e m =
 -- everything but the nodes 1 to v
 unfoldable pub grownTo : List Paren → ℕ → ℕ → ℕ
 grownTo s v x = cond (ltb 256 x) (cond (ltb x (257 + v)) none (slot s x)) (slot s x)
+
+-- from the nodes 1 to 255 to the nodes 1 to v, whatever the summary
+pub record Grows (v : ℕ) (t t′ : List ℕ) : Type 0 where
+  pub holds : (s : List Paren) (t₀ : List ℕ) → Holds (grownTo s 255) t₀ t → Holds (grownTo s v) t₀ t′

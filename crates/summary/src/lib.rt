@@ -3,15 +3,13 @@ use answers::Answer;
 use answers::Refusal;
 use scan::Scan;
 ghost use mathlib.Core.Path.{_≡_};
-ghost use Prim.Native.Nat.{ℕ, min, _+_, _*_, _/_, _≤_, _<_};
-ghost use mathlib.Core.List.{List};
+ghost use Prim.Native.Nat.{min, _+_, _*_, _/_, _≤_, _<_};
 ghost use lib.ListN.{length};
-ghost use Rattle.rules.specs.Shape.{Paren};
 ghost use Rattle.rules.specs.Bytes.{most, parens};
-ghost use Rattle.rules.specs.Summary.{slots, none, blocksFor, slot};
+ghost use Rattle.rules.specs.Summary.{slots, none, blocksFor};
 ghost use Rattle.scan.specs.Rows.{rows};
 ghost use Rattle.summary.specs.Fills.{Fills};
-ghost use Rattle.summary.specs.Laid.{Taken, Holds, Lays, Before, Reaches, freshAt, noted, grownTo};
+ghost use Rattle.summary.specs.Laid.{Taken, Holds, Lays, Before, Reaches, Grows, freshAt, noted};
 
 // Excesses are counted from here, as in the record check.
 const GROUND: usize = 65536;
@@ -130,7 +128,7 @@ fn smaller(a: u16, b: u16) -> u16
 // The tree from the leaves to the root: node v has the smaller of nodes 2v and 2v + 1.
 fn tree(summary: &mut [u16])
     requires { ⌜ slots ≤ length (now summary) ⌝ }
-    ensures { λ _. ⌜ ((s : List Paren) (t₀ : List ℕ) → Holds (grownTo s 255) t₀ (now (summary .entry)) → Holds (slot s) t₀ (now (summary .exit))) ⌝ }
+    ensures { λ _. ⌜ Grows 0 (now (summary .entry)) (now (summary .exit)) ⌝ }
 {
     let mut v = 255;
     while 0 < v {

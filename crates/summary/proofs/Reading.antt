@@ -144,3 +144,14 @@ module _ (s : List Paren) (n : ℕ) (long : length s ≡ 2 * n) (balance : Balan
       let some : 0 < length (block s k) = omega (arith, length-take 256 (drop (256 * k) s), length-drop (256 * k) s) in
       ap (λ (y : Scan). y .smallest) (e ∙ scan-append (freshAt x) 0 (block s k) (replicate u opening) ∙ scan-openings (z .excess) (z .smallest) (z .place) (0 + length (block s k)) u (some-least (freshAt x) 0 (block s k) some))
       ∙ scan-block k x z (omega arith) at refl
+
+-- ---- as the code reads them
+
+module _ {r : List ℕ} {n : ℕ} {t : List ℕ} (taken : Taken r n t) where
+  pub read-whole : {k x : ℕ} {f y : Scan} → k < n / 128 → Before (parens n r) k x → f ≡ freshAt x
+      → y ≡ scanOf f 0 (allBits (take (4 + 32 * k + 32 - (4 + 32 * k)) (drop (4 + 32 * k) r))) → Read (parens n r) n k y
+  read-whole {k} {x} {f} {y} h at begins e =
+      let exact = taken .whole .exact in
+      let m : 4 + 32 * k + 32 - (4 + 32 * k) ≡ 32 = omega arith in
+      let bits : allBits (take (4 + 32 * k + 32 - (4 + 32 * k)) (drop (4 + 32 * k) r)) ≡ block (parens n r) k = rw m (whole-bits r n k (omega arith)) in
+      read (parens n r) n (parens-length r n (omega arith)) (taken .balance) k x y (omega arith) at (rw (← begins, ← bits) e)

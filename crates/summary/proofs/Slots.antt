@@ -15,7 +15,7 @@ use Rattle.rules.specs.Excess.{closingPlace}
 use Rattle.rules.specs.Bytes.{most}
 use Rattle.rules.specs.Summary.{slots, none, blockEnd, leaf}
 use Rattle.rules.proofs.ClosingPlace.{closings-more, closings-few, closings-part, closing-behind, closing-among}
-use Rattle.summary.specs.Laid.{Holds, laid, closed, laidTo, noted}
+use Rattle.summary.specs.Laid.{Holds, Lays, laid, closed, laidTo, noted}
 
 -- a number stored at y
 pub stored : {f : ℕ → ℕ} {t₀ t : List ℕ} (g : ℕ → ℕ) (y v : ℕ) → Holds f t₀ t → y < slots → slots ≤ length t₀ → g y ≡ v
@@ -118,3 +118,15 @@ module _ (s : List Paren) {t₀ : List ℕ} (room : slots ≤ length t₀) where
       within : (i : ℕ) → closed s k ≤ i → i < closed s (k + 1) → closingPlace s i / 256 ≡ k
       within i from upto =
           omega (arith, closing-behind s i (256 * k) from (omega (arith, closings-part s (256 * (k + 1)))), closing-among s i (256 * (k + 1)) upto)
+
+pub lays-none : (s : List Paren) (k : ℕ) (t : List ℕ) → Lays s k k t t
+lays-none s k t = record { holds = λ t₀ h. h }
+
+pub lays-on : {s : List Paren} {t t′ t″ : List ℕ} {j k c d e m : ℕ} → Lays s j k t t′ → slots ≤ length t′ → k < 256 → closed s (k + 1) ≤ most
+    → c ≡ closed s k → d ≡ closed s (k + 1) → e ≡ blockEnd s k → m ≡ leaf s k → t″ ≡ noted t′ k c d e m → Lays s j (k + 1) t t″
+lays-on {s} {t} {t′} {t″} {j} {k} lays room small few c-is d-is e-is m-is stores =
+    record { holds = λ t₀ h. on t₀ (lays .holds t₀ h) }
+  where
+    on : (t₀ : List ℕ) → Holds (laidTo s k) t₀ t′ → Holds (laidTo s (k + 1)) t₀ t″
+    on t₀ h =
+        rw (stores, c-is, d-is, e-is, m-is) (block-laid s (let z = h .size in omega arith) k small few h)

@@ -78,6 +78,10 @@ pub record Read (s : List Paren) (n k : ℕ) (y : Scan) : Type 0 where
 abbrev block : List Paren → ℕ → List Paren
 block s k = take 256 (drop (256 * k) s)
 
+pub before-none : (s : List Paren) → Before s 0 65536
+unfolding closings
+before-none s = refl
+
 next-closed : (s : List Paren) (k : ℕ) → closed s (k + 1) ≡ closed s k + closings (block s k)
 next-closed s k =
     let e : 256 * (k + 1) ≡ 256 * k + 256 = omega arith in
@@ -146,6 +150,10 @@ module _ (s : List Paren) (n : ℕ) (long : length s ≡ 2 * n) (balance : Balan
       ∙ scan-block k x z (omega arith) at refl
 
 -- ---- as the code reads them
+
+pub fresh-ready : {f : Scan} {x m : ℕ} → f ≡ freshAt x → m ≤ x → x + m ≤ 1048576 → Ready f m
+fresh-ready {f} {x} {m} e room high =
+    rw e (record { room = room; high = high; bound = omega arith })
 
 module _ {r : List ℕ} {n : ℕ} {t : List ℕ} (taken : Taken r n t) where
   pub read-whole : {k x : ℕ} {f y : Scan} → k < n / 128 → Before (parens n r) k x → f ≡ freshAt x

@@ -19,7 +19,7 @@ use Rattle.rules.proofs.Checked.{parens-length}
 use Rattle.rules.proofs.Summary.{block-alone, smallest-few, leaf-few, end-few, end-closings}
 use Rattle.scan.specs.declared.Scan.{Scan}
 use Rattle.scan.specs.Scan.{Ready, scanOf}
-use Rattle.scan.proofs.Laws.{scan-append, scan-excess, grounded, scan-smallest, scan-openings, some-least, ready-after}
+use Rattle.scan.proofs.Laws.{scan-append, scan-excess, grounded, scan-smallest, scan-openings, scan-opened, some-least, ready-after}
 use Rattle.checks.specs.Inside.{Whole}
 use Rattle.checks.proofs.Last.{spare, before, last, parens-last}
 use Rattle.summary.specs.Laid.{Taken, closed, Before, freshAt}
@@ -78,9 +78,17 @@ pub record Read (s : List Paren) (n k : ℕ) (y : Scan) : Type 0 where
 abbrev block : List Paren → ℕ → List Paren
 block s k = take 256 (drop (256 * k) s)
 
+-- what a scan of the last block ends in where it is short
+pub record Short (s : List Paren) (n k : ℕ) (y : Scan) : Type 0 where
+  pub all : closed s (k + 1) ≡ n
+  pub end : blockEnd s k ≡ 0
+  pub smallest : y .smallest ≡ 65536 + leaf s k
+  pub leaf-few : leaf s k ≤ none
+  pub order : closed s k ≤ n
+
 pub before-none : (s : List Paren) → Before s 0 65536
 unfolding closings
-before-none s = refl
+before-none s = record { high = omega arith; excess = refl }
 
 next-closed : (s : List Paren) (k : ℕ) → closed s (k + 1) ≡ closed s k + closings (block s k)
 next-closed s k =
@@ -131,7 +139,7 @@ module _ (s : List Paren) (n : ℕ) (long : length s ≡ 2 * n) (balance : Balan
       let excess : y .excess + closings (block s k) ≡ x + openings (block s k) = rw (← e) at (scan-excess (freshAt x) 0 (block s k) (omega (arith, ground k x (omega arith) at .2))) in
       let end = end-closings s n long balance k (omega arith) in
       record {
-        next = omega arith;
+        next = record { high = omega arith; excess = omega arith };
         end = omega arith;
         smallest = scan-block k x y (omega arith) at e;
         leaf-few = leaf-few s k;
@@ -140,14 +148,23 @@ module _ (s : List Paren) (n : ℕ) (long : length s ≡ 2 * n) (balance : Balan
         few = omega (arith, closings-part s (256 * (k + 1)), balance .last, counts-length s);
       }
 
-  -- bytes of the last, short block but its last one, and that one with its unused bits opened
-  pub read-last : (k x : ℕ) (y : Scan) (u : ℕ) → 128 * k < n → Before s k x → y ≡ scanOf (freshAt x) 0 (block s k ++ replicate u opening)
-      → y .smallest ≡ 65536 + leaf s k
-  read-last k x y u h at e =
+  -- the last, short block, with openings behind its parentheses
+  read-short : (k x : ℕ) (y : Scan) (u : ℕ) → 128 * k < n → n ≤ 128 * (k + 1) → Before s k x
+      → y ≡ scanOf (freshAt x) 0 (block s k ++ replicate u opening) → Short s n k y
+  read-short k x y u some short at e =
       let z = scanOf (freshAt x) 0 (block s k) in
-      let some : 0 < length (block s k) = omega (arith, length-take 256 (drop (256 * k) s), length-drop (256 * k) s) in
-      ap (λ (y : Scan). y .smallest) (e ∙ scan-append (freshAt x) 0 (block s k) (replicate u opening) ∙ scan-openings (z .excess) (z .smallest) (z .place) (0 + length (block s k)) u (some-least (freshAt x) 0 (block s k) some))
-      ∙ scan-block k x z (omega arith) at refl
+      let size : 0 < length (block s k) = omega (arith, length-take 256 (drop (256 * k) s), length-drop (256 * k) s) in
+      let low : y .smallest ≡ z .smallest = ap (λ (y : Scan). y .smallest) (e ∙ scan-append (freshAt x) 0 (block s k) (replicate u opening) ∙ scan-openings (z .excess) (z .smallest) (z .place) (0 + length (block s k)) u (some-least (freshAt x) 0 (block s k) size)) in
+      let all : closed s (k + 1) ≡ closings s = rw (take-all (256 * (k + 1)) s (omega arith)) in
+      let counts = counts-length s in
+      let last = balance .last in
+      record {
+        all = omega arith;
+        end = omega (arith, end-closings s n long balance k (omega arith));
+        smallest = low ∙ scan-block k x z (omega arith) at refl;
+        leaf-few = leaf-few s k;
+        order = omega (arith, closings-part s (256 * k));
+      }
 
 -- ---- as the code reads them
 
@@ -163,3 +180,27 @@ module _ {r : List ℕ} {n : ℕ} {t : List ℕ} (taken : Taken r n t) where
       let m : 4 + 32 * k + 32 - (4 + 32 * k) ≡ 32 = omega arith in
       let bits : allBits (take (4 + 32 * k + 32 - (4 + 32 * k)) (drop (4 + 32 * k) r)) ≡ block (parens n r) k = rw m (whole-bits r n k (omega arith)) in
       read (parens n r) n (parens-length r n (omega arith)) (taken .balance) k x y (omega arith) at (rw (← begins, ← bits) e)
+
+  pub ready-last : (k : ℕ) {x : ℕ} {f y : Scan} → k ≡ n / 128 → Before (parens n r) k x → f ≡ freshAt x
+      → y ≡ scanOf f 0 (allBits (take (length r - 1 - (4 + 32 * k)) (drop (4 + 32 * k) r))) → Ready y 8
+  ready-last k {x} {f} {y} whole at begins e =
+      let exact = taken .whole .exact in
+      let few = taken .whole .few in
+      let bs = take (length r - 1 - (4 + 32 * k)) (drop (4 + 32 * k) r) in
+      let short = length-take (length r - 1 - (4 + 32 * k)) (drop (4 + 32 * k) r) in
+      let bits = allBits-length bs in
+      rw e (ready-after f 0 8 (allBits bs) (fresh-ready begins (omega arith) (omega arith)))
+
+  -- f is the state before the block, y that before its last byte, b that byte with its unused bits opened, z the state behind it
+  pub read-last : (k b : ℕ) {x : ℕ} {f y z : Scan} → k ≡ n / 128 → 128 * k < n → Before (parens n r) k x → f ≡ freshAt x
+      → y ≡ scanOf f 0 (allBits (take (length r - 1 - (4 + 32 * k)) (drop (4 + 32 * k) r)))
+      → lowBits 8 b ≡ take (8 - spare n) (last r) ++ replicate (8 - (8 - spare n)) opening
+      → z ≡ scanOf y (8 * (length r - 1 - (4 + 32 * k))) (lowBits 8 b) → Short (parens n r) n k z
+  read-last k b {x} {f} {y} {z} whole some at begins front opens end =
+      let exact = taken .whole .exact in
+      let bs = take (length r - 1 - (4 + 32 * k)) (drop (4 + 32 * k) r) in
+      let u = 8 - (8 - spare n) in
+      let m : 8 * (length r - 1 - (4 + 32 * k)) ≡ 0 + 8 * length bs = omega (arith, length-take (length r - 1 - (4 + 32 * k)) (drop (4 + 32 * k) r), length-drop (4 + 32 * k) r) in
+      let through : z ≡ scanOf f 0 ((allBits bs ++ take (8 - spare n) (last r)) ++ replicate u opening) = scan-opened f y z 0 bs b u (take (8 - spare n) (last r)) front opens (rw (← m) end) in
+      read-short (parens n r) n (parens-length r n (omega arith)) (taken .balance) k x z u some (omega arith) at
+      (through ∙ rw (begins, last-bits r n k (taken .whole) some (omega arith)))

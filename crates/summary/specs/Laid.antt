@@ -46,9 +46,10 @@ laidTo s k x = laid s k k (closed s k) x
 pub record Lays (s : List Paren) (j k : ℕ) (t t′ : List ℕ) : Type 0 where
   pub holds : (t₀ : List ℕ) → Holds (laidTo s j) t₀ t → Holds (laidTo s k) t₀ t′
 
--- the excess before block k is x, counted from 65,536
-abbrev pub Before : List Paren → ℕ → ℕ → Type 0
-Before s k x = x + 2 * closed s k ≡ 65536 + 256 * k
+-- the excess before block k is x, counted from 65,536: each closing takes two from the number of parentheses
+pub record Before (s : List Paren) (k x : ℕ) : Type 0 where
+  pub high : 65536 ≤ x
+  pub excess : x + 2 * closed s k ≡ 65536 + 256 * k
 
 -- the first k blocks, and the excess behind them
 pub record Reaches (s : List Paren) (k : ℕ) (t t′ : List ℕ) (x : ℕ) : Type 0 where

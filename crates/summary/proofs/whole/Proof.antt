@@ -19,13 +19,13 @@ use Rattle.summary.proofs.note.Reads as note-reads
 
 abbrev Inv-loop : tie.InvT-loop
 Inv-loop t bytes n summary₀ excess₀ k₀ summary excess k =
-    (k ≤ n / 128) × (65536 ≤ excess) × Before (parens n bytes) k excess × (length summary ≡ length summary₀) × Lays (parens n bytes) 0 k summary₀ summary
+    (k ≤ n / 128) × Before (parens n bytes) k excess × (length summary ≡ length summary₀) × Lays (parens n bytes) 0 k summary₀ summary
 
 abbrev μ-loop : tie.MeasureT-loop
 μ-loop t bytes n summary₀ excess₀ k₀ summary excess k = n / 128 - k
 
 loop-holds : tie.Need-loop-holds Inv-loop μ-loop
-loop-holds c = (omega arith, omega arith, before-none (parens (c .before .before .args .n) (c .before .before .args .bytes .now)), refl, lays-none _ _ _)
+loop-holds c = (omega arith, before-none (parens (c .before .before .args .n) (c .before .before .args .bytes .now)), refl, lays-none _ _ _)
 
 -- what the scan of block k ended in
 step : (c : tie.After-bytes Inv-loop μ-loop)
@@ -34,7 +34,7 @@ step : (c : tie.After-bytes Inv-loop μ-loop)
 step c =
     let loop = c .before .before .before .before in
     let start = loop .before .before .before in
-    read-whole (start .pre .1) (c .before .before .before .loop-test .taken) (loop .loop .inv .2) (c .before .before .fresh .ensures) (c .bytes .ensures)
+    read-whole (start .pre .1) (c .before .before .before .loop-test .taken) (loop .loop .inv .1) (c .before .before .fresh .ensures) (c .bytes .ensures)
 
 mul-at : tie.Need-mul-at Inv-loop μ-loop
 mul-at c = omega arith
@@ -111,16 +111,16 @@ loop-again c =
     let upto : (256 * loop .k + 256 + 65536 - st .excess) / 2 ≡ closed (parens (start .args .n) (start .args .bytes .now)) (loop .k + 1) = omega arith in
     let end : st .excess - 65536 ≡ blockEnd (parens (start .args .n) (start .args .bytes .now)) (loop .k) = omega arith in
     let low : st .smallest - 65536 ≡ leaf (parens (start .args .n) (start .args .bytes .now)) (loop .k) = omega arith in
-    (omega arith, omega arith, s .next, omega arith, lays-on (loop .inv .4) (omega arith) (omega arith) (omega arith) from upto end low (call .ensures))
+    (omega arith, s .next, omega arith, lays-on (loop .inv .3) (omega arith) (omega arith) (omega arith) from upto end low (call .ensures))
 
 same-length : tie.Need-same-length Inv-loop μ-loop
-same-length c = c .before .loop .inv .3
+same-length c = c .before .loop .inv .2
 
 returns : tie.Need-returns Inv-loop μ-loop
 returns c =
     let start = c .before .before .before .before in
     let all : c .before .loop .k ≡ start .args .n / 128 = omega arith in
-    rw (← all) (record { before = c .before .loop .inv .2; lays = c .before .loop .inv .4 })
+    rw (← all) (record { before = c .before .loop .inv .1; lays = c .before .loop .inv .3 })
 
 pub whole-spec : {M : Type 1} → statement M
 whole-spec =

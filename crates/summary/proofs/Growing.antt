@@ -18,9 +18,18 @@ use Rattle.summary.proofs.Slots.{same-test, stored, held}
 -- ---- a node
 
 -- past node v
-grown-past : (s : List Paren) (v x : ℕ) → 257 + v ≤ x → grownTo s v x ≡ slot s x
+pub grown-past : (s : List Paren) (v x : ℕ) → 257 + v ≤ x → grownTo s v x ≡ slot s x
 unfolding grownTo
 grown-past s v x h = rw (lt-ltb 256 x (omega arith), le-ltb x (257 + v) h)
+
+-- and once there is no node left
+pub grown-all : (s : List Paren) (x : ℕ) → grownTo s 0 x ≡ slot s x
+unfolding grownTo
+grown-all s x = by (ltb 256 x) refl
+  where
+    by : (b : Bool) → ltb 256 x ≡ b → cond b (cond (ltb x 257) none (slot s x)) (slot s x) ≡ slot s x
+    by true e = rw (le-ltb x 257 (let h = ltb-true 256 x e in omega arith))
+    by false e = refl
 
 slot-halves : (s : List Paren) (v : ℕ) → 1 ≤ v → v < 256 → slot s (256 + v) ≡ min (slot s (256 + 2 * v)) (slot s (257 + 2 * v))
 slot-halves s v some small =

@@ -122,6 +122,9 @@ module _ (s : List Paren) {t₀ : List ℕ} (room : slots ≤ length t₀) where
 pub lays-none : (s : List Paren) (k : ℕ) (t : List ℕ) → Lays s k k t t
 lays-none s k t = record { holds = λ t₀ h. h }
 
+pub lays-join : {s : List Paren} {i j k : ℕ} {t t′ t″ : List ℕ} → Lays s i j t t′ → Lays s j k t′ t″ → Lays s i k t t″
+lays-join f g = record { holds = λ t₀ h. g .holds t₀ (f .holds t₀ h) }
+
 pub lays-on : {s : List Paren} {t t′ t″ : List ℕ} {j k c d e m : ℕ} → Lays s j k t t′ → slots ≤ length t′ → k < 256 → closed s (k + 1) ≤ most
     → c ≡ closed s k → d ≡ closed s (k + 1) → e ≡ blockEnd s k → m ≡ leaf s k → t″ ≡ noted t′ k c d e m → Lays s j (k + 1) t t″
 lays-on {s} {t} {t′} {t″} {j} {k} lays room small few c-is d-is e-is m-is stores =

@@ -1,43 +1,45 @@
+-- `summary::blocks` meets its contract: the whole blocks, then the last one if it is short.
+-- Assumes nothing.
+use mathlib.Core.Path.{_≡_}
+use Prim.Native.Nat.{_+_, _/_}
+use native.Mathlib.Omega.{arith}
+use Rattle.rules.specs.Summary.{blocksFor}
+use Rattle.summary.proofs.Slots.{lays-join}
 use borrow.Author.Needs.{needs}
 use Rattle.summary.proofs.blocks.Statement.{statement}
 use Rattle.summary.proofs.blocks.Tie as tie
-use Rattle.summary.proofs.blocks.Reads as reads
-use Rattle.summary.proofs.blocks.Lts as lts
-use Rattle.scan.proofs.table.Reads as table-reads
-use Rattle.summary.proofs.last.Reads as last-reads
-use Rattle.summary.proofs.whole.Reads as whole-reads
 
--- src/lib.rt:115:13
 table-requires : tie.Need-table-requires
 table-requires c κs = search needs
 
--- src/lib.rt:116:9
 whole-requires : tie.Need-whole-requires
 whole-requires c κs = search needs
 
--- src/lib.rt:117:8
 mul-if1 : tie.Need-mul-if1
 mul-if1 c = search needs
 
--- src/lib.rt:118:9
 last-requires : tie.Need-last-requires
-last-requires c κs = ?
+last-requires c κs =
+    let start = c .before .before .before .before .before .before .before .before .before .before .before in
+    (c .before .before .before .before .before .before .before .before .table .ensures, record { whole = start .pre .whole; balance = start .pre .balance; room = omega arith }, c .before .before .before .before .before .whole .ensures .before, omega arith)
 
--- src/lib.rt:111:1
 same-length : tie.Need-same-length
 same-length c = search needs
 
--- src/lib.rt:111:1
 returns : tie.Need-returns
-returns c = ?
+returns c =
+    let start = c .before .before .before .before .before .before .before .before .before .before .before .before .before .before in
+    let blocks : blocksFor (start .args .n) ≡ start .args .n / 128 + 1 = omega arith in
+    rw blocks (lays-join (c .before .before .before .before .before .before .before .before .whole .ensures .lays) (c .before .before .last .ensures))
 
--- src/lib.rt:111:1
 same-length-2 : tie.Need-same-length-2
 same-length-2 c = search needs
 
--- src/lib.rt:111:1
 returns-2 : tie.Need-returns-2
-returns-2 c = ?
+returns-2 c =
+    let start = c .before .before .before .before .before .before .before .before .before in
+    let blocks : blocksFor (start .args .n) ≡ start .args .n / 128 = omega arith in
+    rw blocks (c .before .before .before .whole .ensures .lays)
 
 pub blocks-spec : {M : Type 1} → statement M
 blocks-spec =

@@ -1,52 +1,42 @@
+-- `summary::fill` meets its contract: a refusal of the check is passed on, then 3, then the slots.
+-- Assumes nothing.
+use mathlib.Core.Path.{sym, ap, _∙_}
+use native.Mathlib.Omega.{arith}
+use Rattle.answers.specs.Said.{said}
+use Rattle.summary.proofs.Filled.{taken, filled, refused, refused-short}
 use borrow.Author.Needs.{needs}
 use Rattle.summary.proofs.fill.Statement.{statement}
 use Rattle.summary.proofs.fill.Tie as tie
-use Rattle.summary.proofs.fill.Reads as reads
-use Rattle.summary.proofs.fill.Lts as lts
-use Rattle.checks.proofs.check.Reads as check-reads
-use Rattle.summary.proofs.blank.Reads as blank-reads
-use Rattle.summary.proofs.blocks.Reads as blocks-reads
-use Rattle.summary.proofs.tree.Reads as tree-reads
 
--- src/lib.rt:22:11
 check-requires : tie.Need-check-requires
 check-requires c κs = search needs
 
--- src/lib.rt:23:20
 enum-known-n : tie.Need-enum-known-n
 enum-known-n c = search needs
 
--- src/lib.rt:25:17
 returns : tie.Need-returns
-returns c = ?
+returns c = refused-short (sym (c .before .before .before .before .check .ensures) ∙ ap said (c .before .before .n .given .1)) (c .if1 .taken)
 
--- src/lib.rt:27:13
 blank-requires : tie.Need-blank-requires
 blank-requires c κs = search needs
 
--- src/lib.rt:28:13
 blocks-requires : tie.Need-blocks-requires
-blocks-requires c κs = ?
+blocks-requires c κs = taken (sym (c .before .before .before .before .before .before .before .before .before .check .ensures) ∙ ap said (c .before .before .before .before .before .before .before .n .given .1)) (omega arith)
 
--- src/lib.rt:29:13
 tree-requires : tie.Need-tree-requires
 tree-requires c κs = search needs
 
--- src/lib.rt:32:25
 enum-known-r : tie.Need-enum-known-r
 enum-known-r c = search needs
 
--- src/lib.rt:19:1
 same-length : tie.Need-same-length
 same-length c = search needs
 
--- src/lib.rt:19:1
 returns-2 : tie.Need-returns-2
-returns-2 c = ?
+returns-2 c = filled (sym (c .before .before .before .before .before .before .before .before .before .before .before .before .before .before .before .before .check .ensures) ∙ ap said (c .before .before .before .before .before .before .before .before .before .before .before .before .before .before .n .given .1)) (omega arith) (c .before .before .before .before .before .before .before .before .before .before .blank .ensures) (c .before .before .before .before .before .before .blocks2 .ensures) (c .before .before .tree .ensures)
 
--- src/lib.rt:19:1
 returns-3 : tie.Need-returns-3
-returns-3 c = ?
+returns-3 c = refused _ _ (sym (c .before .before .before .check .ensures) ∙ ap said (c .before .r .given .1))
 
 pub fill-spec : {M : Type 1} → statement M
 fill-spec =

@@ -85,7 +85,7 @@ sub-c c = search needs
 -- what the scan of the block ended in
 short : (c : tie.After-byte)
     → let start = c .before .before .before .before .before .before .before .before in
-      Short (parens (start .args .n) (start .args .bytes .now)) (start .args .n) (start .args .n / 128) (c .byte .result)
+    Short (parens (start .args .n) (start .args .bytes .now)) (start .args .n) (start .args .n / 128) (c .byte .result)
 short c =
     let start = c .before .before .before .before .before .before .before .before in
     read-last (start .pre .1) (start .args .n / 128) (c .before .opened .result) refl (start .pre .3) (start .pre .2) (c .before .before .before .before .before .fresh .ensures) (c .before .before .before .bytes .ensures) (c .before .opened .ensures) (c .byte .ensures)

@@ -30,7 +30,7 @@ loop-holds c = (omega arith, before-none (parens (c .before .before .args .n) (c
 -- what the scan of block k ended in
 step : (c : tie.After-bytes Inv-loop μ-loop)
     → let start = c .before .before .before .before .before .before .before in
-      Read (parens (start .args .n) (start .args .bytes .now)) (start .args .n) (c .before .before .before .before .loop .k) (c .bytes .result)
+    Read (parens (start .args .n) (start .args .bytes .now)) (start .args .n) (c .before .before .before .before .loop .k) (c .bytes .result)
 step c =
     let loop = c .before .before .before .before in
     let start = loop .before .before .before in

@@ -1,7 +1,7 @@
 -- Places go from the stack's end, one by one, while their entries are not below a.
 -- Assumes nothing.
 use mathlib.Core.Path.{_≡_, refl}
-use Prim.Native.Nat.{ℕ, suc, _-_, _≤_, _<_}
+use Prim.Native.Nat.{ℕ, _-_, _≤_, _<_}
 use native.Mathlib.Omega.{arith}
 use mathlib.Core.Bool.{Bool, true, false}
 use mathlib.Core.List.{List}
@@ -27,6 +27,7 @@ one-popped {c} {w} {h} {a} {k} u e =
     by j g l true t = let last : j ≡ k - 1 = omega (arith, ltb-true j k t) in rw last e
     by j g l false t = u .popped j (ltb-false j k t) l
 
+-- where it ends: at a smaller entry, or with no place left
 pub some-stay : {c w : List ℕ} {h a k : ℕ} → Pops c w h a k → entryAt c w (k - 1) < a → Keeps c w h a k
 some-stay {c} {w} {h} {a} {k} u e =
     record {

@@ -8,9 +8,11 @@ use lib.ListN.{length, getD}
 abbrev pub entryAt : List ℕ → List ℕ → ℕ → ℕ
 entryAt c w j = getD c (getD w j 0) 0
 
-pub record Stacked (c w : List ℕ) (h : ℕ) : Type 0 where
+-- a stack of h places, the topmost entry being top
+pub record Stacked (c w : List ℕ) (h top : ℕ) : Type 0 where
   pub fits : h ≤ length w
   pub places : (j : ℕ) → j < h → getD w j 0 < length c
+  pub last : (j : ℕ) → suc j ≡ h → entryAt c w j ≡ top
 
 -- of h places k stay when a comes: those above have entries of a or more, and the topmost that stays has a smaller one
 pub record Keeps (c w : List ℕ) (h a k : ℕ) : Type 0 where

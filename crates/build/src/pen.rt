@@ -28,11 +28,9 @@ impl Pen {
             held = 0;
             acc = 0;
         }
-        Pen {
-            left,
-            held: held + more,
-            acc: ((acc + 1) << more) - 1,
-        }
+        acc = ((acc + 1) << more) - 1;
+        held += more;
+        Pen { left, held, acc }
     }
 
     // One closing.

@@ -1,64 +1,60 @@
+-- `build::keep` meets its contract. The invariant: from k on every place's entry is a or more; k falls. Assumes nothing.
 use Prim.Native.Nat.{_-_}
 use native.Mathlib.Omega.{arith}
 use Rattle.build.proofs.Popping.{Pops, none-popped, one-popped, some-stay, none-stay}
 use Rattle.build.proofs.keep.Statement.{statement}
 use Rattle.build.proofs.keep.Tie as tie
-use Rattle.build.proofs.keep.Reads as reads
-use Rattle.build.proofs.keep.Lts as lts
 
 abbrev Inv-loop : tie.InvT-loop
-Inv-loop column work h a k₀ k = Pops column work h a k
+Inv-loop column work h top a k₀ k = Pops column work h a k
 
 abbrev μ-loop : tie.MeasureT-loop
-μ-loop column work h a k₀ k = k
+μ-loop column work h top a k₀ k = k
 
--- src/lib.rt:76:5
-loop-holds : tie.Need-loop-holds Inv-loop μ-loop
-loop-holds c = none-popped _ _ _ _
-
--- src/lib.rt:77:22
-sub-p : tie.Need-sub-p Inv-loop μ-loop
-sub-p c = omega arith
-
--- src/lib.rt:77:17
-mul-p : tie.Need-mul-p Inv-loop μ-loop
-mul-p c = omega arith
-
--- src/lib.rt:77:17
-shared-slice-read-p : tie.Need-shared-slice-read-p Inv-loop μ-loop
-shared-slice-read-p c = omega arith
-
--- src/lib.rt:77:17
-cast-p : tie.Need-cast-p Inv-loop μ-loop
-cast-p c = omega (arith, c .shared-slice-known .given (c .before .before .loop .k - 1))
-
--- src/lib.rt:78:12
-mul-if1 : tie.Need-mul-if1 Inv-loop μ-loop
-mul-if1 c = omega (arith, c .before .before .before .pre .places (c .before .before .loop .k - 1) (omega arith))
-
--- src/lib.rt:78:12
-shared-slice-read-if1 : tie.Need-shared-slice-read-if1 Inv-loop μ-loop
-shared-slice-read-if1 c = c .before .before .before .before .pre .places (c .before .before .before .loop .k - 1) (omega arith)
-
--- src/lib.rt:79:13
 returns : tie.Need-returns Inv-loop μ-loop
-returns c = some-stay (c .before .before .before .before .loop .inv) (c .if1 .taken)
+returns c = none-stay (none-popped _ _ _ _) (omega arith)
 
--- src/lib.rt:81:9
+returns-2 : tie.Need-returns-2 Inv-loop μ-loop
+returns-2 c = some-stay (none-popped _ _ _ _) (rw (c .before .before .pre .last (c .before .before .args .h - 1) (omega arith)) (c .if2 .taken))
+
 sub-k : tie.Need-sub-k Inv-loop μ-loop
 sub-k c = omega arith
 
--- src/lib.rt:76:5
+loop-holds : tie.Need-loop-holds Inv-loop μ-loop
+loop-holds c = one-popped (none-popped _ _ _ _) (rw (c .before .before .pre .last (c .before .before .args .h - 1) (omega arith)) (c .if2 .left))
+
+sub-p : tie.Need-sub-p Inv-loop μ-loop
+sub-p c = omega arith
+
+mul-p : tie.Need-mul-p Inv-loop μ-loop
+mul-p c = omega arith
+
+shared-slice-read-p : tie.Need-shared-slice-read-p Inv-loop μ-loop
+shared-slice-read-p c = omega arith
+
+cast-p : tie.Need-cast-p Inv-loop μ-loop
+cast-p c = omega (arith, c .shared-slice-known .given (c .before .before .loop .k - 1))
+
+mul-if3 : tie.Need-mul-if3 Inv-loop μ-loop
+mul-if3 c = omega (arith, c .before .before .before .before .before .pre .places (c .before .before .loop .k - 1) (omega arith))
+
+shared-slice-read-if3 : tie.Need-shared-slice-read-if3 Inv-loop μ-loop
+shared-slice-read-if3 c = c .before .before .before .before .before .before .pre .places (c .before .before .before .loop .k - 1) (omega arith)
+
+returns-3 : tie.Need-returns-3 Inv-loop μ-loop
+returns-3 c = some-stay (c .before .before .before .before .loop .inv) (c .if3 .taken)
+
+sub-k-2 : tie.Need-sub-k-2 Inv-loop μ-loop
+sub-k-2 c = omega arith
+
 loop-less : tie.Need-loop-less Inv-loop μ-loop
 loop-less c = omega arith
 
--- src/lib.rt:76:5
 loop-again : tie.Need-loop-again Inv-loop μ-loop
-loop-again c = one-popped (c .before .before .before .before .loop .inv) (c .if1 .left)
+loop-again c = one-popped (c .before .before .before .before .loop .inv) (c .if3 .left)
 
--- src/lib.rt:71:1
-returns-2 : tie.Need-returns-2 Inv-loop μ-loop
-returns-2 c = none-stay (c .before .loop .inv) (c .loop-test .left)
+returns-4 : tie.Need-returns-4 Inv-loop μ-loop
+returns-4 c = none-stay (c .before .loop .inv) (c .loop-test .left)
 
 pub keep-spec : {M : Type 1} → statement M
 keep-spec =
@@ -66,15 +62,18 @@ keep-spec =
     (tie.spec
     Inv-loop
     μ-loop
+    returns
+    returns-2
+    sub-k
     loop-holds
     sub-p
     mul-p
     shared-slice-read-p
     cast-p
-    mul-if1
-    shared-slice-read-if1
-    returns
-    sub-k
+    mul-if3
+    shared-slice-read-if3
+    returns-3
+    sub-k-2
     loop-less
     loop-again
-    returns-2)
+    returns-4)

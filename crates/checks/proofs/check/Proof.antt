@@ -1,8 +1,9 @@
 -- `checks::check` meets its contract: a refusal of the frame is passed on, and behind the frame come 11, 6 and 7.
 -- Assumes nothing.
 use mathlib.Core.Path.{sym, ap, _∙_}
+use Rattle.rules.proofs.Checked.{says-framed}
 use Rattle.answers.specs.Said.{said}
-use Rattle.checks.proofs.Says.{framed, check-inside, check-refused}
+use Rattle.checks.proofs.Says.{check-inside, check-refused}
 use borrow.Author.Needs.{needs}
 use Rattle.checks.proofs.check.Statement.{statement}
 use Rattle.checks.proofs.check.Tie as tie
@@ -15,8 +16,8 @@ enum-known-n c = search needs
 
 inside-requires : tie.Need-inside-requires
 inside-requires c κs =
-    let f = framed (c .before .before .before .before .before .args .bytes .now) (c .before .n .given .0 .0) (ap said (sym (c .before .n .given .1)) ∙ c .before .before .before .frame .ensures) in
-    (f .few, f .room)
+    let f = says-framed (c .before .before .before .before .before .args .bytes .now) (c .before .n .given .0 .0) (sym (ap said (sym (c .before .n .given .1)) ∙ c .before .before .before .frame .ensures)) in
+    (f .few, f .long)
 
 enum-known-r : tie.Need-enum-known-r
 enum-known-r c = search needs

@@ -1,47 +1,34 @@
 -- `build::Pen::closes` meets its contract: the closing is held, or fills the byte, which is stored. Assumes nothing.
 use native.Mathlib.Omega.{arith}
-use Prim.Native.Nat.{_+_, _*_, _<_}
-use mathlib.Core.List.{[], _∷_}
 use borrow.Author.Needs.{needs}
 use Rattle.build.proofs.Writing.{adds-closed, adds-byte, holds-more, stores}
 use Rattle.build.proofs.pen.Pen.closes.Statement.{statement}
 use Rattle.build.proofs.pen.Pen.closes.Tie as tie
-use Rattle.build.proofs.pen.Pen.closes.Reads as reads
-use Rattle.build.proofs.pen.Pen.closes.Lts as lts
 
--- src/lib.rt:51:20
 add-held : tie.Need-add-held
 add-held c = search needs
 
--- src/lib.rt:52:19
 mul-acc : tie.Need-mul-acc
 mul-acc c = omega (arith, adds-byte (c .before .before .pre) (adds-closed (c .before .before .args .self)) (omega arith))
 
--- src/lib.rt:54:13
 returns : tie.Need-returns
 returns c = holds-more _ _ _ _ _ (omega arith) (omega arith) (adds-closed (c .before .before .before .args .self))
 
--- src/lib.rt:60:20
 sub-left : tie.Need-sub-left
 sub-left c = search needs
 
--- src/lib.rt:61:25
 cast-out : tie.Need-cast-out
 cast-out c = omega (arith, adds-byte (c .before .before .before .before .pre) (adds-closed (c .before .before .before .before .args .self)) (omega arith))
 
--- src/lib.rt:61:13
 add-out : tie.Need-add-out
 add-out c = search needs
 
--- src/lib.rt:61:9
 slice-write-out : tie.Need-slice-write-out
 slice-write-out c = search needs
 
--- src/lib.rt:47:5
 same-length : tie.Need-same-length
 same-length c = search needs
 
--- src/lib.rt:47:5
 returns-2 : tie.Need-returns-2
 returns-2 c = stores _ _ _ _ (omega arith) (omega arith) (omega arith) (adds-closed (c .before .before .before .before .args .self))
 

@@ -1,0 +1,7 @@
+pub mod Opened
+pub mod Fillers
+pub mod Seek
+pub mod Seen
+pub mod FromClosing
+pub mod Answered
+pub mod Says

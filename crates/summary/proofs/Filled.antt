@@ -1,19 +1,19 @@
 -- From the checks, the blocks and the tree to the contract of `fill`.
 -- Assumes nothing.
-use mathlib.Core.Path.{_≡_, refl, ap, sym, _∙_}
+use mathlib.Core.Path.{_≡_, refl, sym, _∙_}
 use Prim.Native.Nat.{ℕ, _+_, _-_, _*_, _≤_, _<_, zero-le}
 use native.Mathlib.Decide.{decLt, ℕ-discrete}
 use native.Mathlib.Omega.{arith}
 use mathlib.Core.Bool.{Bool, true, false, cond}
 use mathlib.Core.List.{List, _++_}
-use borrow.Author.Tests.{lt-ltb, le-ltb, ltb-true, ltb-false}
+use borrow.Author.Tests.{lt-ltb, le-ltb, ltb-false}
 use lib.Dec.{ltb}
 use lib.ListN.{length, take, drop, getD, take-append-drop}
 use lib.Seq.{ext-getD, getD-take, take-all, length-take-le}
 use Rattle.rules.specs.Shape.{Paren}
-use Rattle.rules.specs.Excess.{closings, Balanced}
-use Rattle.rules.specs.Bytes.{entries, parens}
-use Rattle.rules.specs.Refusal.{Outcome, answer, refusal}
+use Rattle.rules.specs.Excess.{closings}
+use Rattle.rules.specs.Bytes.{parens}
+use Rattle.rules.specs.Refusal.{answer, refusal}
 use Rattle.rules.specs.Order.{checkSays}
 use Rattle.rules.specs.Summary.{slots, none, blocksFor, blockEnd, leaf, closingBlock, slot, summaryOf, fillSays, summaryAfter}
 use Rattle.rules.proofs.Checked.{says-checked, parens-length}

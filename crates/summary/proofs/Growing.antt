@@ -1,19 +1,18 @@
--- The tree grows node by node, and what all blocks give together with it is the summary.
+-- The tree grows node by node.
 -- Assumes nothing.
-use mathlib.Core.Path.{_≡_, refl, ap, sym, _∙_}
-use Prim.Native.Nat.{ℕ, min, _+_, _-_, _*_, _/_, _≤_, _<_}
-use native.Mathlib.Decide.{decLt}
+use mathlib.Core.Path.{_≡_, refl, _∙_}
+use Prim.Native.Nat.{ℕ, min, _+_, _-_, _*_, _≤_, _<_}
 use native.Mathlib.Omega.{arith}
 use mathlib.Core.Bool.{Bool, true, false, cond}
-use mathlib.Core.List.{List, _++_}
-use borrow.Author.Tests.{lt-ltb, le-ltb, ltb-true, ltb-false}
+use mathlib.Core.List.{List}
+use borrow.Author.Tests.{lt-ltb, le-ltb, ltb-true}
 use lib.Dec.{ltb}
-use lib.ListN.{length, take, drop, getD, set}
+use lib.ListN.{length, getD, set}
 use Rattle.rules.specs.Shape.{Paren}
 use Rattle.rules.specs.Summary.{slots, none, slot}
 use Rattle.rules.proofs.Summary.{slot-node, node-halves}
 use Rattle.summary.specs.Laid.{Holds, grownTo, Grows}
-use Rattle.summary.proofs.Slots.{same-test, stored, held}
+use Rattle.summary.proofs.Slots.{same-test, stored}
 
 -- ---- a node
 

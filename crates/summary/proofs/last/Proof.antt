@@ -103,11 +103,14 @@ same-length c = search needs
 
 returns : tie.Need-returns
 returns c =
-    let s = short (c .before .before .before .before .before) in
-    let start = c .before .before .before .before .before .before .before .before .before .before .before .before .before in
-    let from : (256 * (start .args .n / 128) + 65536 - start .args .excess) / 2 ≡ closed (parens (start .args .n) (start .args .bytes .now)) (start .args .n / 128) = omega arith in
-    let low : c .before .before .before .before .before .byte .result .smallest - 65536 ≡ leaf (parens (start .args .n) (start .args .bytes .now)) (start .args .n / 128) = omega arith in
-    lays-on (lays-none _ _ _) (omega arith) (omega arith) (omega arith) from (sym (s .all)) (sym (s .end)) low (c .before .before .note .ensures)
+    let scan = c .before .before .before .before .before in
+    let start = scan .before .before .before .before .before .before .before .before in
+    let k = start .args .n / 128 in
+    let s = parens (start .args .n) (start .args .bytes .now) in
+    let block = short scan in
+    let from : (256 * k + 65536 - start .args .excess) / 2 ≡ closed s k = omega arith in
+    let low : scan .byte .result .smallest - 65536 ≡ leaf s k = omega arith in
+    lays-on (lays-none _ _ _) (omega arith) (omega arith) (omega arith) from (sym (block .all)) (sym (block .end)) low (c .before .before .note .ensures)
 
 pub last-spec : {M : Type 1} → statement M
 last-spec =

@@ -11,11 +11,6 @@ use Rattle.summary.proofs.Slots.{lays-none, lays-on}
 use Rattle.summary.proofs.Reading.{Read, before-none, fresh-ready, read-whole}
 use Rattle.summary.proofs.whole.Statement.{statement}
 use Rattle.summary.proofs.whole.Tie as tie
-use Rattle.summary.proofs.whole.Reads as reads
-use Rattle.summary.proofs.whole.Lts as lts
-use Rattle.scan.proofs.Scan.bytes.Reads as bytes-reads
-use Rattle.summary.proofs.fresh.Reads as fresh-reads
-use Rattle.summary.proofs.note.Reads as note-reads
 
 abbrev Inv-loop : tie.InvT-loop
 Inv-loop t bytes n summary₀ excess₀ k₀ summary excess k =
@@ -102,16 +97,17 @@ loop-less c = omega arith
 
 loop-again : tie.Need-loop-again Inv-loop μ-loop
 loop-again c =
-    let call = c .before .before .note in
-    let st = c .before .before .before .before .before .before .before .bytes .result in
-    let loop = c .before .before .before .before .before .before .before .before .before .before .before .loop in
-    let start = c .before .before .before .before .before .before .before .before .before .before .before .before .before .before in
-    let s = step (c .before .before .before .before .before .before .before) in
-    let from : (256 * loop .k + 65536 - loop .excess) / 2 ≡ closed (parens (start .args .n) (start .args .bytes .now)) (loop .k) = omega arith in
-    let upto : (256 * loop .k + 256 + 65536 - st .excess) / 2 ≡ closed (parens (start .args .n) (start .args .bytes .now)) (loop .k + 1) = omega arith in
-    let end : st .excess - 65536 ≡ blockEnd (parens (start .args .n) (start .args .bytes .now)) (loop .k) = omega arith in
-    let low : st .smallest - 65536 ≡ leaf (parens (start .args .n) (start .args .bytes .now)) (loop .k) = omega arith in
-    (omega arith, s .next, omega arith, lays-on (loop .inv .3) (omega arith) (omega arith) (omega arith) from upto end low (call .ensures))
+    let scan = c .before .before .before .before .before .before .before in
+    let st = scan .bytes .result in
+    let loop = scan .before .before .before .before .loop in
+    let start = scan .before .before .before .before .before .before .before in
+    let s = parens (start .args .n) (start .args .bytes .now) in
+    let block = step scan in
+    let from : (256 * loop .k + 65536 - loop .excess) / 2 ≡ closed s (loop .k) = omega arith in
+    let upto : (256 * loop .k + 256 + 65536 - st .excess) / 2 ≡ closed s (loop .k + 1) = omega arith in
+    let end : st .excess - 65536 ≡ blockEnd s (loop .k) = omega arith in
+    let low : st .smallest - 65536 ≡ leaf s (loop .k) = omega arith in
+    (omega arith, block .next, omega arith, lays-on (loop .inv .3) (omega arith) (omega arith) (omega arith) from upto end low (c .before .before .note .ensures))
 
 same-length : tie.Need-same-length Inv-loop μ-loop
 same-length c = c .before .loop .inv .2

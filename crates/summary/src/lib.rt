@@ -101,8 +101,9 @@ fn last(t: &[i8; 768], bytes: &[u8], n: usize, excess: usize, summary: &mut [u16
     let end = bytes.len() - 1;
     let spare = 8 * ((n + 3) / 4) - 2 * n;
     let st = fresh(excess).bytes(t, &bytes[at..end], 0);
-    let tail = scan::mask::opened(bytes[end], 8 - (spare as u32));
-    let low = st.byte(t, 8 * (end - at), tail);
+    let tail = bytes[end];
+    let opened = scan::mask::opened(tail, 8 - (spare as u32));
+    let low = st.byte(t, 8 * (end - at), opened);
     let c = (256 * k + GROUND - excess) / 2;
     note(summary, k, c, n, 0, low.smallest - GROUND);
 }

@@ -21,7 +21,8 @@ mul-if1 c = search needs
 last-requires : tie.Need-last-requires
 last-requires c κs =
     let start = c .before .before .before .before .before .before .before .before .before .before .before in
-    (c .before .before .before .before .before .before .before .before .table .ensures, record { whole = start .pre .whole; balance = start .pre .balance; room = omega arith }, c .before .before .before .before .before .whole .ensures .before, omega arith)
+    let laid = c .before .before .before .before .before in
+    (laid .before .before .before .table .ensures, record { whole = start .pre .whole; balance = start .pre .balance; room = omega arith }, laid .whole .ensures .before, omega arith)
 
 same-length : tie.Need-same-length
 same-length c = search needs

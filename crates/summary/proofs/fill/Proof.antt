@@ -1,7 +1,9 @@
 -- `summary::fill` meets its contract: a refusal of the check is passed on, then 3, then the slots.
 -- Assumes nothing.
-use mathlib.Core.Path.{sym, ap, _∙_}
+use mathlib.Core.Path.{_≡_, sym, ap, _∙_}
 use native.Mathlib.Omega.{arith}
+use Rattle.rules.specs.Refusal.{answer}
+use Rattle.rules.specs.Order.{checkSays}
 use Rattle.answers.specs.Said.{said}
 use Rattle.summary.proofs.Filled.{taken, filled, refused, refused-short}
 use borrow.Author.Needs.{needs}
@@ -14,14 +16,18 @@ check-requires c κs = search needs
 enum-known-n : tie.Need-enum-known-n
 enum-known-n c = search needs
 
+-- the check has answered n
+accepted : (c : tie.After-known-told) → checkSays (c .before .before .before .before .before .before .args .bytes .now) ≡ answer (c .before .n .given .0 .0)
+accepted c = sym (c .before .before .before .check .ensures) ∙ ap said (c .before .n .given .1)
+
 returns : tie.Need-returns
-returns c = refused-short (sym (c .before .before .before .before .check .ensures) ∙ ap said (c .before .before .n .given .1)) (c .if1 .taken)
+returns c = refused-short (accepted (c .before)) (c .if1 .taken)
 
 blank-requires : tie.Need-blank-requires
 blank-requires c κs = search needs
 
 blocks-requires : tie.Need-blocks-requires
-blocks-requires c κs = taken (sym (c .before .before .before .before .before .before .before .before .before .check .ensures) ∙ ap said (c .before .before .before .before .before .before .before .n .given .1)) (omega arith)
+blocks-requires c κs = taken (accepted (c .before .before .before .before .before .before)) (omega arith)
 
 tree-requires : tie.Need-tree-requires
 tree-requires c κs = search needs
@@ -33,7 +39,9 @@ same-length : tie.Need-same-length
 same-length c = search needs
 
 returns-2 : tie.Need-returns-2
-returns-2 c = filled (sym (c .before .before .before .before .before .before .before .before .before .before .before .before .before .before .before .before .check .ensures) ∙ ap said (c .before .before .before .before .before .before .before .before .before .before .before .before .before .before .n .given .1)) (omega arith) (c .before .before .before .before .before .before .before .before .before .before .blank .ensures) (c .before .before .before .before .before .before .blocks2 .ensures) (c .before .before .tree .ensures)
+returns-2 c =
+    let laid = c .before .before .before .before .before .before in
+    filled (accepted (c .before .before .before .before .before .before .before .before .before .before .before .before .before)) (omega arith) (laid .before .before .before .before .blank .ensures) (laid .blocks2 .ensures) (c .before .before .tree .ensures)
 
 returns-3 : tie.Need-returns-3
 returns-3 c = refused _ _ (sym (c .before .before .before .check .ensures) ∙ ap said (c .before .r .given .1))

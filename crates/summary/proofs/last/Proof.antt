@@ -50,8 +50,8 @@ bytes-requires c κs =
     let start = c .before .before .before .before in
     (start .pre .0, fresh-ready (c .before .fresh .ensures) (omega arith) (omega arith), omega arith)
 
-shared-slice-read-opened : tie.Need-shared-slice-read-opened
-shared-slice-read-opened c = search needs
+shared-slice-read-tail : tie.Need-shared-slice-read-tail
+shared-slice-read-tail c = search needs
 
 cast-opened : tie.Need-cast-opened
 cast-opened c = search needs
@@ -128,7 +128,7 @@ last-spec =
     part-bytes-start
     part-bytes-end
     bytes-requires
-    shared-slice-read-opened
+    shared-slice-read-tail
     cast-opened
     sub-opened
     opened-requires

@@ -14,3 +14,4 @@ pub mod Checked
 pub mod Record
 pub mod Drawer
 pub mod Table
+pub mod Summary

@@ -133,11 +133,12 @@ pub fn block(t: &[u16], blocks: usize, i: usize) -> usize
 
 // The excess before block k.
 pub fn before(t: &[u16], k: usize) -> usize
-    requires { ⌜ k ≤ length (now t) ⌝ }
+    requires { ⌜ k < length (now t) ⌝ }
     ensures { λ r. ⌜ Before (now (t .entry)) k r ⌝ }
 {
     if k == 0 {
         return 0;
     }
-    t[k - 1] as usize
+    let last = k - 1;
+    t[last] as usize
 }

@@ -2,3 +2,6 @@ pub mod Opened
 pub mod Fillers
 pub mod Seek
 pub mod Seen
+pub mod FromClosing
+pub mod Answered
+pub mod Says

@@ -1,14 +1,14 @@
 -- A scan sees the leftmost smallest excess: one parenthesis after another, its three numbers are those of the excesses read so far.
 -- Of any sequence, from any ground that is high enough. Assumes nothing.
 use mathlib.Core.Path.{_≡_, refl, ap, sym, _∙_}
-use Prim.Native.Nat.{ℕ, zero, suc, pred, _+_, _-_, _≤_, _<_}
-use native.Mathlib.Nat.{add-suc, add-zero, suc-add}
+use Prim.Native.Nat.{ℕ, zero, suc, _+_, _-_, _≤_, _<_}
+use native.Mathlib.Nat.{add-suc, add-zero}
 use native.Mathlib.Numerals.{add-one}
 use native.Mathlib.Omega.{arith}
 use mathlib.Core.Bool.{Bool, true, false, cond}
 use mathlib.Core.List.{List, [], _∷_, _++_}
 use lib.Dec.{ltb}
-use lib.ListN.{length, take, drop, getD, length-drop, drop-of-length-le}
+use lib.ListN.{length, take, drop, getD, length-drop}
 use lib.Seq.{take-suc, drop-append-le, length-take-le, slice-empty}
 use Rattle.rules.specs.Shape.{Paren, opening, closing}
 use Rattle.rules.specs.Column.{leastOf}
@@ -17,7 +17,8 @@ use Rattle.rules.proofs.Excess.{openings-append, closings-append, counts-length
 use Rattle.scan.specs.declared.Scan.{Scan}
 use Rattle.scan.specs.Scan.{seen, stepOf, scanOf}
 use Rattle.scan.proofs.Laws.{scan-append}
-use Rattle.ask.specs.Lowest.{seenFrom}
+use Rattle.ask.specs.Byte.{begun}
+use Rattle.ask.specs.Between.{seenFrom}
 
 -- one more excess
 seen-more : (c : List ℕ) (a k : ℕ) → seen (seenFrom c a k) (a + suc k) (getD c (a + suc k) 0) ≡ seenFrom c a (suc k)
@@ -63,15 +64,26 @@ module _ (g : ℕ) (s : List Paren) (high : length s ≤ g) where
       ∙ ap (seen (seenFrom c a k) (a + suc k)) e
       ∙ seen-more c a k
 
-  pub scan-seen : (a k : ℕ) → a + k < length s
+  from : (a k : ℕ) → a + k < length s
       → scanOf (seenFrom (excesses g s) a 0) (suc a) (drop (suc a) (take (suc (a + k)) s)) ≡ seenFrom (excesses g s) a k
   unfolding scanOf
-  scan-seen a zero h = rw (add-zero a, slice-empty (suc a) s)
-  scan-seen a (suc k) h =
+  from a zero h = rw (add-zero a, slice-empty (suc a) s)
+  from a (suc k) h =
       let t = take (suc (a + k)) s in
       let q = getD s (suc (a + k)) opening in
       let n : length t ≡ suc (a + k) = length-take-le (suc (a + k)) s (omega arith) in
       let f : take (suc (a + suc k)) s ≡ t ++ (q ∷ []) = rw (add-suc a k) (take-suc s (suc (a + k)) opening (omega arith)) in
       let p : suc a + length (drop (suc a) t) ≡ a + suc k = omega (arith, length-drop (suc a) t) in
-      rw (f, drop-append-le (suc a) t (q ∷ []) (omega arith), scan-append (seenFrom (excesses g s) a 0) (suc a) (drop (suc a) t) (q ∷ []), p, scan-seen a k (omega arith))
+      rw (f, drop-append-le (suc a) t (q ∷ []) (omega arith), scan-append (seenFrom (excesses g s) a 0) (suc a) (drop (suc a) t) (q ∷ []), p, from a k (omega arith))
       (step a k h)
+
+  start : (a : ℕ) → a < length s → begun (excess g s a) a ≡ seenFrom (excesses g s) a 0
+  unfolding seenFrom leastOf
+  start a h = rw (add-zero a, excesses-at g s a h)
+
+  -- from place a to place b
+  pub scan-seen : (a b : ℕ) → a ≤ b → b < length s
+      → scanOf (begun (excess g s a) a) (suc a) (drop (suc a) (take (suc b) s)) ≡ seenFrom (excesses g s) a (b - a)
+  scan-seen a b h l =
+      let e : a + (b - a) ≡ b = omega arith in
+      rw (start a (omega arith)) (rw e at (from a (b - a) (omega arith)))

@@ -1,3 +1,3 @@
 pub mod Byte
 pub mod Part
-pub mod Lowest
+pub mod Between

@@ -1,3 +1,83 @@
-// Plain ask: from a record alone.
+// Plain ask: from a record alone. Behind the record check each byte up to closing j's is read through
+// the table, and none but the two closings' own more than once.
 pub mod byte;
 pub mod part;
+
+use answers::Answer;
+use answers::Refusal;
+use scan::Scan;
+ghost use mathlib.Core.Path.{_≡_};
+ghost use Prim.Native.Nat.{_+_, _-_, _/_, _≤_};
+ghost use Rattle.rules.specs.Excess.{entryBetween};
+ghost use Rattle.rules.specs.Bytes.{entries, parens, allBits};
+ghost use Rattle.rules.specs.Order.{askSays};
+ghost use Rattle.scan.specs.Rows.{rows};
+ghost use Rattle.answers.specs.Said.{said};
+ghost use Rattle.ask.specs.Between.{ground, seenBetween, Asked, Taken};
+
+// Excesses are counted from here: a record has at most 65,536 parentheses, so none is below 0.
+const GROUND: usize = 65536;
+
+// The closings among the first p parentheses, after which the excess is e: each takes two off p.
+fn closings(p: usize, e: usize) -> usize
+    requires { ⌜ (p ≤ ground) × (e ≤ p + ground) ⌝ }
+    ensures { λ r. ⌜ r ≡ (p + ground - e) / 2 ⌝ }
+{
+    (p + GROUND - e) / 2
+}
+
+// The scan that begins with closing i and ends with closing j: a part of closing i's byte, and where
+// closing j is not in it the whole bytes behind it and a part of closing j's.
+fn lowest(t: &[i8; 768], body: &[u8], i: usize, j: usize) -> Scan
+    requires { ⌜ (now t ≡ rows) × Asked (now body) i j ⌝ }
+    ensures { λ r. ⌜ r ≡ seenBetween (allBits (now (body .entry))) i j ⌝ }
+{
+    let start = Scan {
+        excess: GROUND,
+        smallest: 0,
+        place: 0,
+    };
+    let first = part::seek(start, t, body, 0, i);
+    let a = first.byte;
+    let x = first.bit;
+    let b = body[a];
+    let e = GROUND + 8 * a + (x as usize) - 2 * i - 1;
+    let here = byte::behind(t, 8 * a, b, x, e);
+    let next = a + 1;
+    let passed = closings(8 * next, here.excess);
+    if j < passed {
+        let scan = first.scan;
+        let y = byte::nth(b, j - closings(8 * a, scan.excess));
+        return byte::within(t, 8 * a, b, x, e, y + 1);
+    }
+    part::through(here, t, &body[next..], 8 * next, j - passed)
+}
+
+// The entry whose closing is the leftmost place of smallest excess from closing i to closing j.
+fn between(bytes: &[u8], i: usize, j: usize) -> usize
+    requires { ⌜ Taken (now bytes) i j ⌝ }
+    ensures { λ r. ⌜ r ≡ entryBetween (parens (entries (now (bytes .entry))) (now (bytes .entry))) i j ⌝ }
+{
+    let t = scan::table();
+    let end = lowest(&t, &bytes[4..], i, j);
+    closings(end.place + 1, end.smallest) - 1
+}
+
+// The leftmost smallest entry from i to j, both counted in, of the column whose record this is: the
+// record check, then 8 for i above j or j of n or more. Time in proportion to the record.
+pub fn ask(bytes: &[u8], i: usize, j: usize) -> Answer
+    ensures { λ r. ⌜ said r ≡ askSays (now (bytes .entry)) i j ⌝ }
+{
+    match checks::check(bytes) {
+        Answer::Is(n) => {
+            if j < i {
+                return Answer::Refused(Refusal::OutOfRange);
+            }
+            if j < n {
+                return Answer::Is(between(bytes, i, j));
+            }
+            Answer::Refused(Refusal::OutOfRange)
+        }
+        Answer::Refused(r) => Answer::Refused(r),
+    }
+}

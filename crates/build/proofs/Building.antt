@@ -18,11 +18,15 @@ pub refused : (c w o : List ℕ) (x : Refusal) → buildSays c (length w) (lengt
 unfolding outputAfter workAfter
 refused c w o x e = record { says = sym e; output = rw e; work = rw e }
 
-pub built : {c w o w₁ o₁ w′ o′ : List ℕ} → Taken c w o → Bodied c w o w₁ o₁ → o′ ≡ 0x52 ∷ 0x4D ∷ length c % 256 ∷ length c / 256 ∷ drop 4 o₁ → w′ ≡ replicate (length c) 0 ++ drop (length c) w₁
+pub built : {c w o w₁ o₁ w′ o′ : List ℕ} → Taken c w o → Bodied c w o w₁ o₁
+    → o′ ≡ 0x52 ∷ 0x4D ∷ length c % 256 ∷ length c / 256 ∷ drop 4 o₁ → w′ ≡ replicate (length c) 0 ++ drop (length c) w₁
     → Builds c w o (Is (recordLength (length c))) w′ o′
 unfolding buildSays outputAfter workAfter recordOf columnRecord
 built {c} {w} {o} {w₁} {o₁} {w′} {o′} taken bodied head clear =
-    let says : buildSays c (length w) (length o) ≡ answer (recordLength (length c)) = simp (le-ltb most (length c) (taken .few), le-ltb (length o) (recordLength (length c)) (taken .output), le-ltb (length w) (length c) (taken .work)) in
+    let few = le-ltb most (length c) (taken .few) in
+    let long = le-ltb (length o) (recordLength (length c)) (taken .output) in
+    let wide = le-ltb (length w) (length c) (taken .work) in
+    let says : buildSays c (length w) (length o) ≡ answer (recordLength (length c)) = simp (few, long, wide) in
     record {
       says = sym says;
       output = rw says (rw (bodied .body) at head);

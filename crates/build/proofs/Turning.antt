@@ -68,11 +68,13 @@ ready u le =
       fits = omega (arith, u .penned .within);
     }
 
-pub ready-after : {c w₀ o₀ w o o′ : List ℕ} {a : List Paren} {p q : Pen} {h top i k : ℕ} → Turned c w₀ o₀ w o p h top i → Writes a p o q o′ → length a + k ≤ 2 * i + h → Ready q o′ k
+pub ready-after : {c w₀ o₀ w o o′ : List ℕ} {a : List Paren} {p q : Pen} {h top i k : ℕ}
+    → Turned c w₀ o₀ w o p h top i → Writes a p o q o′ → length a + k ≤ 2 * i + h → Ready q o′ k
 ready-after {a = a} {k = k} u w le = goes-on (ready {k = length a + k} u le) w (le-refl (length a + k))
 
 -- a turn: the tree gets one more entry
-pub one-turned : {c w₀ o₀ w o o′ o″ : List ℕ} {p q q′ : Pen} {h top i k : ℕ} → Turned c w₀ o₀ w o p h top i → 0 < i → Keeps c w h (getD c (i - 1) 0) k
+pub one-turned : {c w₀ o₀ w o o′ o″ : List ℕ} {p q q′ : Pen} {h top i k : ℕ}
+    → Turned c w₀ o₀ w o p h top i → 0 < i → Keeps c w h (getD c (i - 1) 0) k
     → Writes (replicate (h - k) opening) p o q o′ → Writes (closing ∷ []) q o′ q′ o″ → Turned c w₀ o₀ (set w k (i - 1)) o″ q′ (k + 1) (getD c (i - 1) 0) (i - 1)
 unfolding treeOf
 one-turned {c} {w₀} {o₀} {w} {o} {o′} {o″} {p} {q} {q′} {h} {top} {i} {k} u some keeps opened closed =
@@ -103,7 +105,8 @@ one-turned {c} {w₀} {o₀} {w} {o} {o′} {o″} {p} {q} {q′} {h} {top} {i} 
     }
 
 -- the spine's openings make the parentheses whole
-pub all-turned : {c w₀ o₀ w o o′ : List ℕ} {p q : Pen} {h top i : ℕ} → Turned c w₀ o₀ w o p h top i → i ≤ 0 → Writes (replicate h opening) p o q o′ → Bodied c w₀ o₀ w o′
+pub all-turned : {c w₀ o₀ w o o′ : List ℕ} {p q : Pen} {h top i : ℕ}
+    → Turned c w₀ o₀ w o p h top i → i ≤ 0 → Writes (replicate h opening) p o q o′ → Bodied c w₀ o₀ w o′
 all-turned {c} {w₀} {o₀} {w} {o} {o′} {p} {q} {h} {top} {i} v le opened =
     let u : Turned c w₀ o₀ w o p h top 0 = rw (le-zero le) at v in
     let run : length (replicate h opening) ≡ h = length-replicate h opening in

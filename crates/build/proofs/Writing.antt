@@ -44,7 +44,8 @@ unfolding bytesOf
 byte a s h k e = rw (← e, take-append-add, drop-append-add)
 
 -- eight are held: the byte is stored, and the pen holds nothing
-pub stores : (a : List Paren) (p : Pen) (o : List ℕ) (v : ℕ) → length a + p .held ≡ 8 → 0 < p .left → 4 + p .left ≤ length o → Adds a p v → Writes a p o (record { left = p .left - 1; held = 0; acc = 0 }) (set o (4 + (p .left - 1)) v)
+pub stores : (a : List Paren) (p : Pen) (o : List ℕ) (v : ℕ) → length a + p .held ≡ 8 → 0 < p .left → 4 + p .left ≤ length o → Adds a p v
+    → Writes a p o (record { left = p .left - 1; held = 0; acc = 0 }) (set o (4 + (p .left - 1)) v)
 unfolding bits
 stores a p o v e some fits adds =
     record {
@@ -62,18 +63,19 @@ stores a p o v e some fits adds =
     }
 
 -- eight parentheses or fewer are a byte's number
-pub small : (a s : List Paren) (h : ℕ) → length a + h ≤ 8 → bits (a ++ take h s) < 256
+small : (a s : List Paren) (h : ℕ) → length a + h ≤ 8 → bits (a ++ take h s) < 256
 small a s h le = rw (← (take-append-add a s h)) (lt-of-lt-of-le (bits-below (length a + h) (a ++ s)) (pow-mono le))
 
 -- the shift gives one more than the number of k openings in front of those held
-pub shifted : (s : List Paren) (h k acc : ℕ) → acc ≡ bits (take h s) → k + h ≤ 8 → ((acc + 1) * 2 ^ k) % 2 ^ 32 ≡ suc (bits (replicate k opening ++ take h s))
+shifted : (s : List Paren) (h k acc : ℕ) → acc ≡ bits (take h s) → k + h ≤ 8 → ((acc + 1) * 2 ^ k) % 2 ^ 32 ≡ suc (bits (replicate k opening ++ take h s))
 shifted s h k acc e le =
     let few : length (replicate k opening) + h ≤ 8 = rw length-replicate le in
     let is : (acc + 1) * 2 ^ k ≡ suc (bits (replicate k opening ++ take h s)) = rw (add-one, e) (sym (bits-opened k (take h s))) in
     rw is (mod-eq-of-lt (omega (arith, small (replicate k opening) s h few)))
 
 -- so nothing is lost in the shift or the cast
-pub shift-fits : {p : Pen} {o : List ℕ} {j : ℕ} → Ready p o j → (k : ℕ) → k + p .held ≤ 8 → (p .acc < 256) × (1 ≤ ((p .acc + 1) * 2 ^ k) % 2 ^ 32) × (((p .acc + 1) * 2 ^ k) % 2 ^ 32 ≤ 256)
+pub shift-fits : {p : Pen} {o : List ℕ} {j : ℕ} → Ready p o j → (k : ℕ) → k + p .held ≤ 8
+    → (p .acc < 256) × (1 ≤ ((p .acc + 1) * 2 ^ k) % 2 ^ 32) × (((p .acc + 1) * 2 ^ k) % 2 ^ 32 ≤ 256)
 shift-fits {p} r k le =
     let is = shifted (r .s) (p .held) k (p .acc) (r .penned .holds) le in
     let few : length (replicate k opening) + p .held ≤ 8 = rw length-replicate le in
@@ -92,7 +94,7 @@ pub adds-byte : {a : List Paren} {p : Pen} {o : List ℕ} {k v : ℕ} → Ready 
 adds-byte {a} {p} r adds le = rw (adds .is (r .s) (r .penned .holds)) (small a (r .s) (p .held) le)
 
 -- one run after another
-pub and-then : {a b : List Paren} {p q r : Pen} {o o′ o″ : List ℕ} → Writes a p o q o′ → Writes b q o′ r o″ → Writes (b ++ a) p o r o″
+and-then : {a b : List Paren} {p q r : Pen} {o o′ o″ : List ℕ} → Writes a p o q o′ → Writes b q o′ r o″ → Writes (b ++ a) p o r o″
 and-then {a} {b} u v =
     record {
       room = omega (arith, u .room, v .room, length-append b a);
@@ -126,7 +128,8 @@ none-opened {count} r =
       writes = rw sub-self (record { room = omega arith; same = refl; front = λ w. w });
     }
 
-pub more-opened : (j : ℕ) {count more i : ℕ} {p q q′ : Pen} {o o′ o″ : List ℕ} → Opening count p o more q o′ → i + j ≡ more → Writes (replicate j opening) q o′ q′ o″ → Opening count p o i q′ o″
+pub more-opened : (j : ℕ) {count more i : ℕ} {p q q′ : Pen} {o o′ o″ : List ℕ} → Opening count p o more q o′ → i + j ≡ more
+    → Writes (replicate j opening) q o′ q′ o″ → Opening count p o i q′ o″
 more-opened j {count} {more} {i} u e w =
     let sum : j + (count - more) ≡ count - i = omega (arith, u .fewer) in
     record {

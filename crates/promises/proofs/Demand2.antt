@@ -10,12 +10,12 @@ use Rattle.rules.specs.Column.{least}
 use Rattle.rules.specs.Shape.{shape}
 use Rattle.rules.specs.Excess.{closings}
 use Rattle.rules.specs.StandIn.{standIn}
-use Rattle.rules.specs.Bytes.{most, recordLength, recordOf, columnRecord, parens}
+use Rattle.rules.specs.Bytes.{Bytes, most, recordLength, recordOf, columnRecord, parens}
 use Rattle.rules.specs.Refusal.{answer}
 use Rattle.rules.specs.Order.{buildSays, outputAfter, checkSays, askSays, standInSays, columnAfter}
 use Rattle.rules.proofs.Excess.{counts-length}
 use Rattle.rules.proofs.StandIn.{stand-in-length}
-use Rattle.rules.proofs.Record.{Bytes, Accepted, record-length, record-parens, record-accepted, accepted-record}
+use Rattle.rules.proofs.Record.{Accepted, record-length, record-parens, record-accepted, accepted-record}
 use Rattle.theory.proofs.Written.{shape-length, shape-balanced}
 use Rattle.theory.proofs.StandInTree.{stand-in-again}
 use Rattle.theory.proofs.Agree.{asked-least}

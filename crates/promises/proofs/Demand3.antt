@@ -5,10 +5,10 @@ use native.Mathlib.Omega.{arith}
 use mathlib.Core.List.{List}
 use lib.ListN.{length, take, getD}
 use Rattle.rules.specs.Shape.{shape}
-use Rattle.rules.specs.Bytes.{most, columnRecord, parens}
+use Rattle.rules.specs.Bytes.{Bytes, most, columnRecord, parens}
 use Rattle.rules.specs.Refusal.{answer}
 use Rattle.rules.specs.Order.{buildSays, outputAfter, workAfter, checkSays}
-use Rattle.rules.proofs.Record.{Bytes, accepted-record}
+use Rattle.rules.proofs.Record.{accepted-record}
 use Rattle.theory.proofs.Agree.{alike-shapes, shapes-alike}
 use Rattle.theory.proofs.StandInTree.{balanced-column}
 use Rattle.answers.proofs.Said.{said-once}

@@ -6,10 +6,9 @@ use Prim.Native.Nat.{ℕ, _≤_, _<_}
 use mathlib.Core.List.{List}
 use lib.ListN.{length, take}
 use Rattle.rules.specs.Column.{least}
-use Rattle.rules.specs.Bytes.{most, recordLength, columnRecord}
+use Rattle.rules.specs.Bytes.{Bytes, most, recordLength, columnRecord}
 use Rattle.rules.specs.Refusal.{answer}
 use Rattle.rules.specs.Order.{buildSays, outputAfter, checkSays, askSays, standInSays, columnAfter}
-use Rattle.rules.proofs.Record.{Bytes}
 
 pub record Demand2 : Type 0 where
   -- build answers wherever column, work and output are as long as its rule asks, and what it writes is the record

@@ -7,10 +7,9 @@ use Prim.Native.Nat.{ℕ, _^_, _≤_, _<_}
 use mathlib.Core.List.{List}
 use lib.ListN.{length, take, getD}
 use Rattle.rules.specs.Column.{least}
-use Rattle.rules.specs.Bytes.{most, columnRecord}
+use Rattle.rules.specs.Bytes.{Bytes, most, columnRecord}
 use Rattle.rules.specs.Refusal.{answer}
 use Rattle.rules.specs.Order.{checkSays}
-use Rattle.rules.proofs.Record.{Bytes}
 use Rattle.answers.specs.declared.Answer.{Answer}
 use Rattle.build.specs.Builds.{Builds}
 

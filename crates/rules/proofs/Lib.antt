@@ -14,4 +14,5 @@ pub mod Checked
 pub mod Record
 pub mod Summary
 pub mod Blocks
+pub mod Drawer
 pub mod Table

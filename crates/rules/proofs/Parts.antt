@@ -29,6 +29,14 @@ closing-second (closing ∷ s) t zero h = absurd (omega arith)
 closing-second (closing ∷ s) t (suc k) h =
     rw (suc-sub-suc k (closings s), suc-add (length s) (closingPlace t (k - closings s))) (ap suc (closing-second s t k (omega arith)))
 
+-- and what stands there closes
+pub closing-closes : (s : List Paren) (k : ℕ) → k < closings s → getD s (closingPlace s k) opening ≡ closing
+unfolding closings closingPlace
+closing-closes [] k h = absurd (omega arith)
+closing-closes (opening ∷ s) k h = closing-closes s k h
+closing-closes (closing ∷ s) zero h = refl
+closing-closes (closing ∷ s) (suc k) h = closing-closes s k (omega arith)
+
 pub allBits-cut : (bs : List ℕ) (m : ℕ) → m < length bs
     → allBits bs ≡ allBits (take m bs) ++ (lowBits 8 (getD bs m 0) ++ allBits (drop (suc m) bs))
 unfolding allBits

@@ -9,16 +9,12 @@ use lib.ListN.{length, take, drop, getD, length-drop}
 use lib.Seq.{take-at, drop-at, getD-drop, take-nil, drop-nil}
 use Rattle.rules.specs.Shape.{Paren, opening, closing}
 use Rattle.rules.specs.Excess.{openings, Balanced}
-use Rattle.rules.specs.Bytes.{most, bytesFor, recordLength, bit, bits, bytesOf, recordOf, paren, lowBits, allBits, entries, parens, unused}
+use Rattle.rules.specs.Bytes.{Bytes, most, bytesFor, recordLength, bit, bits, bytesOf, recordOf, paren, lowBits, allBits, entries, parens, unused}
 use Rattle.rules.specs.Refusal.{answer}
 use Rattle.rules.specs.Order.{checkSays}
 use Rattle.rules.proofs.Bits.{bits-below}
 use Rattle.rules.proofs.Bytes.{lowBits-length, allBits-length}
 use Rattle.rules.proofs.Checked.{Framed, Checked, checked-says, says-checked, parens-length}
-
--- each number of the list is a byte
-pub record Bytes (r : List ℕ) : Type 0 where
-  pub small : (k : ℕ) → getD r k 0 < 256
 
 -- ---- one byte
 

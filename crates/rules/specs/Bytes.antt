@@ -1,9 +1,13 @@
 -- Document 01, "Record and drawer bytes". A record: mark 52 4D (hex); n as two bytes, low byte first; then n/4 bytes, rounded up.
 -- Parenthesis b is bit b mod 8 (lowest first) of byte b/8; 1 opens. Unused bits of the last byte are 0. n is at most 32,768.
-use Prim.Native.Nat.{ℕ, zero, suc, _+_, _*_, _/_, _%_}
+use Prim.Native.Nat.{ℕ, zero, suc, _+_, _*_, _/_, _%_, _<_}
 use mathlib.Core.List.{List, [], _∷_, _++_}
 use lib.ListN.{length, take, drop, getD}
 use Rattle.rules.specs.Shape.{Paren, opening, closing, shape}
+
+-- numbers that are bytes, as those of every lent slice of bytes are
+pub record Bytes (r : List ℕ) : Type 0 where
+  pub small : (k : ℕ) → getD r k 0 < 256
 
 -- the most entries a column may have
 abbrev pub most : ℕ

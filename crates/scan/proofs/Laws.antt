@@ -85,7 +85,7 @@ scan-openings e m q p (suc u) h =
     ap (λ (st : Scan). scanOf st (suc p) (replicate u opening)) (step-opening e m q p (omega arith))
     ∙ rw (add-suc e u, ← suc-add e u) (scan-openings (suc e) m q (suc p) u (omega arith))
 
-seen-least : (st : Scan) (p e : ℕ) → seen st p e .smallest ≤ e
+pub seen-least : (st : Scan) (p e : ℕ) → seen st p e .smallest ≤ e
 seen-least st p e = by (ltb e (st .smallest)) refl
   where
     by : (t : Bool) → ltb e (st .smallest) ≡ t → cond (ltb e (st .smallest)) e (st .smallest) ≤ e
@@ -101,7 +101,7 @@ scan-least st p (closing ∷ s) h = scan-least (stepOf st p closing) (suc p) s (
 -- ---- byte by byte
 
 -- the state after k of the bytes
-pub scanned : Scan → ℕ → List ℕ → ℕ → Scan
+unfoldable pub scanned : Scan → ℕ → List ℕ → ℕ → Scan
 scanned st at bs k = scanOf st at (allBits (take k bs))
 
 pub scanned-none : (st : Scan) (at : ℕ) (bs : List ℕ) → st ≡ scanned st at bs 0

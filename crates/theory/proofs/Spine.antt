@@ -89,7 +89,8 @@ floor b (node l m r) f s e zero h = omega arith
 floor b (node l m r) f s e (suc j) h = omega (arith, floor (suc m) l (λ k. f (suc k)) (s .1) (e .1) j (omega arith))
 
 -- a search from the spine's end finds them: behind k no entry is below a, and the one before is
-pub kept-is : (a b : ℕ) (t : Tree) (f : ℕ → ℕ) (k : ℕ) → Rises b t → Lies f t → k ≤ spine t → ((j : ℕ) → k ≤ j → j < spine t → a ≤ f j) → ((j : ℕ) → suc j ≡ k → f j < a) → k ≡ kept a t
+pub kept-is : (a b : ℕ) (t : Tree) (f : ℕ → ℕ) (k : ℕ) → Rises b t → Lies f t → k ≤ spine t
+    → ((j : ℕ) → k ≤ j → j < spine t → a ≤ f j) → ((j : ℕ) → suc j ≡ k → f j < a) → k ≡ kept a t
 unfolding Rises Lies spine kept
 kept-is a b tip f k s e le popped stays = omega arith
 kept-is a b (node l m r) f zero s e le popped stays =

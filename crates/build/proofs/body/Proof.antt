@@ -61,7 +61,9 @@ loop-less : tie.Need-loop-less Inv-loop μ-loop
 loop-less c = omega arith
 
 loop-again : tie.Need-loop-again Inv-loop μ-loop
-loop-again c = one-turned (c .before .before .before .before .before .before .before .before .before .before .before .before .loop .inv) (omega arith) (c .before .before .before .before .before .before .before .before .keep .ensures) (c .before .before .before .before .before .before .opens .ensures) (c .before .before .closes .ensures)
+loop-again c =
+    let k = c .before .before .before .before .before .before .before .before in
+    one-turned (k .before .before .before .before .loop .inv) (omega arith) (k .keep .ensures) (c .before .before .before .before .before .before .opens .ensures) (c .before .before .closes .ensures)
 
 opens-requires-2 : tie.Need-opens-requires-2 Inv-loop μ-loop
 opens-requires-2 c κs = ready (c .before .before .loop .inv) (omega arith)

@@ -40,7 +40,9 @@ same-length-2 : tie.Need-same-length-2
 same-length-2 c = search needs
 
 returns-4 : tie.Need-returns-4
-returns-4 c = built (search needs) (c .before .before .before .before .before .before .before .before .before .before .before .before .body .ensures) (c .before .before .before .before .before .before .head .ensures) (c .before .before .clear .ensures)
+returns-4 c =
+    let body = c .before .before .before .before .before .before .before .before .before .before .before .before .body in
+    built (search needs) (body .ensures) (c .before .before .before .before .before .before .head .ensures) (c .before .before .clear .ensures)
 
 pub build-spec : {M : Type 1} → statement M
 build-spec =

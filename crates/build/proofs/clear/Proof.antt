@@ -31,7 +31,9 @@ loop-less c = omega arith
 
 loop-again : tie.Need-loop-again Inv-loop μ-loop
 loop-again c =
-    (omega arith, ap (λ (l : List ℕ). set l (c .before .loop .i) 0) (c .before .loop .inv .1) ∙ fill-more (c .before .loop .i) 0 _ (omega arith), rw length-set (c .before .loop .inv .2))
+    let i = c .before .loop .i in
+    let inv = c .before .loop .inv in
+    (omega arith, ap (λ (l : List ℕ). set l i 0) (inv .1) ∙ fill-more i 0 _ (omega arith), rw length-set (inv .2))
 
 same-length : tie.Need-same-length Inv-loop μ-loop
 same-length c = c .before .loop .inv .2

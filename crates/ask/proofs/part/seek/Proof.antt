@@ -1,11 +1,8 @@
 -- `ask::part::seek` meets its contract. The loop's invariant: here and next are the states before and behind byte m, and the closing is
 -- not before it. Assumes nothing.
-use mathlib.Core.Path.{_∙_, ap}
-use Prim.Native.Nat.{ℕ, _+_, _*_, _-_, _/_, _<_}
+use Prim.Native.Nat.{_-_}
 use native.Mathlib.Omega.{arith}
 use lib.ListN.{length}
-use Rattle.rules.specs.Excess.{closings, closingPlace}
-use Rattle.rules.specs.Bytes.{lowBits}
 use Rattle.scan.proofs.Laws.{ready-fewer}
 use Rattle.ask.proofs.Seek.{Seeks, some-byte, few, seeks-first, on-within, on-ready, seeks-on, before-byte, in-byte, stops}
 use Rattle.ask.proofs.part.seek.Statement.{statement}

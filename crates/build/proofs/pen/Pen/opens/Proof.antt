@@ -57,7 +57,9 @@ loop-less : tie.Need-loop-less Inv-loop μ-loop
 loop-less c = omega arith
 
 loop-again : tie.Need-loop-again Inv-loop μ-loop
-loop-again c = more-opened (8 - c .before .loop .held) (c .before .loop .inv) (omega arith) (stores _ _ _ _ (rw length-replicate (omega arith)) (omega arith) (omega arith) (adds-opened _ _ (omega arith)))
+loop-again c =
+    more-opened (8 - c .before .loop .held) (c .before .loop .inv) (omega arith)
+    (stores _ _ _ _ (rw length-replicate (omega arith)) (omega arith) (omega arith) (adds-opened _ _ (omega arith)))
 
 add-acc : tie.Need-add-acc Inv-loop μ-loop
 add-acc c = omega (arith, shift-fits (c .before .loop .inv .ready) (c .before .loop .more) (omega arith))
@@ -78,7 +80,9 @@ same-length : tie.Need-same-length Inv-loop μ-loop
 same-length c = omega arith
 
 returns : tie.Need-returns Inv-loop μ-loop
-returns c = all-opened (more-opened (c .before .loop .more) (c .before .loop .inv) (omega arith) (holds-more _ _ _ _ _ (rw length-replicate (omega arith)) (omega arith) (adds-opened _ _ (omega arith))))
+returns c =
+    all-opened (more-opened (c .before .loop .more) (c .before .loop .inv) (omega arith)
+    (holds-more _ _ _ _ _ (rw length-replicate (omega arith)) (omega arith) (adds-opened _ _ (omega arith))))
 
 pub opens-spec : {M : Type 1} → statement M
 opens-spec =

@@ -1,0 +1,2 @@
+pub mod StandsIn
+pub mod Walk

@@ -1,0 +1,5 @@
+pub mod Nodes
+pub mod Beside
+pub mod Climbing
+pub mod Meeting
+pub mod Down

@@ -2,7 +2,8 @@
 -- Assumes nothing.
 use mathlib.Core.Path.{_≡_, refl, sym, _∙_}
 use Prim.Native.Nat.{ℕ, zero, suc, _+_, _-_, _*_, _/_, _%_, _^_, _≤_, _<_}
-use native.Mathlib.Nat.{zero-add, suc-add, pow-zero, pow-succ', add-comm, mul-comm, mul-assoc, mul-add, mul-left-comm, mul-div-cancel-left, add-mul-mod-self-left, mod-eq-of-lt, mul-lt-mul-of-pos-left, one-mul}
+use native.Mathlib.Nat.{zero-add, suc-add, add-comm, one-mul, mul-comm, mul-assoc, mul-add, mul-left-comm, mul-lt-mul-of-pos-left}
+use native.Mathlib.Nat.{mul-div-cancel-left, add-mul-mod-self-left, mod-eq-of-lt, pow-zero, pow-succ'}
 use native.Mathlib.Omega.{arith}
 use lib.Bits.{bitAnd, and-block, and-zero-l}
 use lib.Pow.{pow-add, shr-shr}
@@ -43,10 +44,12 @@ joined-mul : (p n : ℕ) (a : ℕ → ℕ) → p * joined n a ≡ joined n (λ j
 unfolding joined
 joined-mul p zero a = omega arith
 joined-mul p (suc n) a =
-    rw (mul-add p (a 0) (256 * joined n (λ j. a (suc j))), mul-left-comm p 256 (joined n (λ j. a (suc j))), joined-mul p n (λ j. a (suc j)))
+    let rest = joined n (λ j. a (suc j)) in
+    rw (mul-add p (a 0) (256 * rest), mul-left-comm p 256 rest, joined-mul p n (λ j. a (suc j)))
 
 -- the bits of one mask in each byte
-pub joined-and : (n : ℕ) (a : ℕ → ℕ) (m : ℕ) → Few n 255 a → m < 256 → bitAnd (joined n a) (joined n (λ j. m)) ≡ joined n (λ j. bitAnd (a j) m)
+pub joined-and : (n : ℕ) (a : ℕ → ℕ) (m : ℕ) → Few n 255 a → m < 256
+    → bitAnd (joined n a) (joined n (λ j. m)) ≡ joined n (λ j. bitAnd (a j) m)
 unfolding joined
 joined-and zero a m f l = and-zero-l 0
 joined-and (suc n) a m f l =
@@ -55,17 +58,21 @@ joined-and (suc n) a m f l =
     let e : a 0 + 256 * u ≡ u * 2 ^ 8 + a 0 = omega arith in
     let g : m + 256 * v ≡ v * 2 ^ 8 + m = omega arith in
     let low = f .few 0 (omega arith) in
-    let h : bitAnd (u * 2 ^ 8 + a 0) (v * 2 ^ 8 + m) ≡ bitAnd u v * 2 ^ 8 + bitAnd (a 0) m = and-block 8 u v (a 0) m (omega arith) l in
+    let h : bitAnd (u * 2 ^ 8 + a 0) (v * 2 ^ 8 + m) ≡ bitAnd u v * 2 ^ 8 + bitAnd (a 0) m =
+    and-block 8 u v (a 0) m (omega arith) l in
     rw (e, g, h, joined-and n (λ j. a (suc j)) m (few-next a f) l) (omega arith)
 
 -- the same shifted down by as many bits as nothing is lost by
-pub joined-shr : (n p : ℕ) (a : ℕ → ℕ) → 0 < p → ((j : ℕ) → j < n → p * (a j / p) ≡ a j) → joined n a / p ≡ joined n (λ j. a j / p)
+pub joined-shr : (n p : ℕ) (a : ℕ → ℕ) → 0 < p → ((j : ℕ) → j < n → p * (a j / p) ≡ a j)
+    → joined n a / p ≡ joined n (λ j. a j / p)
 joined-shr n p a pos h =
-    let e : p * joined n (λ j. a j / p) ≡ joined n a = joined-mul p n (λ j. a j / p) ∙ joined-same n (λ j. p * (a j / p)) a h in
+    let e : p * joined n (λ j. a j / p) ≡ joined n a =
+    joined-mul p n (λ j. a j / p) ∙ joined-same n (λ j. p * (a j / p)) a h in
     rw (← e) (mul-div-cancel-left (joined n (λ j. a j / p)) pos)
 
 -- ---- byte j
 
+-- byte j + 1 is byte j of what is above the lowest
 down : (x j : ℕ) → x / 2 ^ (8 * suc j) ≡ x / 256 / 2 ^ (8 * j)
 down x j =
     let e : 8 * suc j ≡ 8 + 8 * j = omega arith in
@@ -89,7 +96,8 @@ unfolding joined
 joined-bytes zero x h = let g : x < 1 = h in omega arith
 joined-bytes (suc n) x h =
     let g : x < 256 * 256 ^ n = rw (pow-succ' 256 n) at h in
-    let e : joined n (λ j. byteAt x (suc j)) ≡ joined n (byteAt (x / 256)) = joined-same n (λ j. byteAt x (suc j)) (byteAt (x / 256)) (λ j l. rw (down x j)) in
+    let e : joined n (λ j. byteAt x (suc j)) ≡ joined n (byteAt (x / 256)) =
+    joined-same n (λ j. byteAt x (suc j)) (byteAt (x / 256)) (λ j l. rw (down x j)) in
     omega (arith, joined-bytes n (x / 256) (omega arith))
 
 -- ---- shifted up by k bytes and added
@@ -121,7 +129,8 @@ joined-behind : (k n : ℕ) (a b : ℕ → ℕ) → joined (k + n) a + 256 ^ k *
 unfolding joined behind
 joined-behind zero n a b = rw (zero-add n, pow-zero 256, one-mul (joined n b)) (joined-add n a b)
 joined-behind (suc k) n a b =
-    let e : 256 ^ suc k * joined n b ≡ 256 * (256 ^ k * joined n b) = rw (pow-succ' 256 k) (mul-assoc 256 (256 ^ k) (joined n b)) in
+    let e : 256 ^ suc k * joined n b ≡ 256 * (256 ^ k * joined n b) =
+    rw (pow-succ' 256 k) (mul-assoc 256 (256 ^ k) (joined n b)) in
     rw (suc-add k n, e) (omega (arith, joined-behind k n (λ j. a (suc j)) b))
 
 -- the lowest n bytes, and what is above them
@@ -149,3 +158,10 @@ pub add-before : (k n : ℕ) (a : ℕ → ℕ) → Few (k + n) 255 a
     → joined (k + n) a + joined (k + n) a * 256 ^ k % 256 ^ (k + n) ≡ joined (k + n) (withBefore k a)
 unfolding withBefore
 add-before k n a f = rw (joined-shl k n a f) (joined-behind k n a a)
+
+-- byte j of a number that is shifted up by a byte is the one before it
+pub shifted-at : (n : ℕ) (a : ℕ → ℕ) (j : ℕ) → Few (1 + n) 255 a → j < n
+    → joined (1 + n) a * 256 % 256 ^ (1 + n) / 2 ^ (8 * suc j) % 256 ≡ a j
+shifted-at n a j f l =
+    let e : 256 * joined n a / 256 ≡ joined n a = omega arith in
+    rw (joined-shl 1 n a f, down (256 * joined n a) j, e) (joined-at n a j (few-part n a (omega arith) f) l)

@@ -114,7 +114,7 @@ fn last(t: &[u16], blocks: usize, first: usize, q: usize) -> usize
 // that number. Most often it is one of three, told by two ends that are read side by side; else it is
 // searched for.
 pub fn block(t: &[u16], blocks: usize, i: usize) -> usize
-    requires { ⌜ (896 ≤ length (now t)) × (1 ≤ blocks) × (blocks ≤ 256) × (i < 32768) ⌝ }
+    requires { ⌜ (896 ≤ length (now t)) × (blocks ≤ 256) × (i < 32768) ⌝ }
     ensures { λ r. ⌜ StandsIn (now (t .entry)) blocks i r ⌝ }
 {
     let q = i / 256;

@@ -21,6 +21,7 @@ fn two(part: &[u8], at: usize) -> u64
     wide(part[at]) + 0x100 * wide(part[at + 1])
 }
 
+// Four of them.
 fn four(part: &[u8], at: usize) -> u64
     requires { ⌜ at + 4 ≤ length (now part) ⌝ }
     ensures { λ r. ⌜ Loads 4 (now (part .entry)) at r ⌝ }

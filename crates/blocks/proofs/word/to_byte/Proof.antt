@@ -4,7 +4,7 @@ use native.Mathlib.Omega.{arith}
 use borrow.Author.Needs.{needs}
 use lib.Count.{leading-le}
 use Rattle.blocks.proofs.Bits.{leads}
-use Rattle.blocks.proofs.Sums.{Narrows, narrows, marks, start}
+use Rattle.blocks.proofs.Marks.{Narrows, narrows, marks, start}
 use Rattle.blocks.proofs.word.to_byte.Statement.{statement}
 use Rattle.blocks.proofs.word.to_byte.Tie as tie
 

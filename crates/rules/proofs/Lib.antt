@@ -7,11 +7,12 @@ pub mod StandIn
 pub mod Bits
 pub mod Bytes
 pub mod Same
-pub mod Parts
-pub mod Counted
 pub mod Every
 pub mod Checked
 pub mod Record
 pub mod Drawer
-pub mod Table
 pub mod Summary
+pub mod Table
+pub mod Parts
+pub mod Counted
+pub mod Blocks

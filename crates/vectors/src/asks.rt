@@ -3,18 +3,13 @@ use crate::compare;
 use crate::plain;
 use crate::tally::Tally;
 
-// Whether the ask answers with the column's own.
-fn right(column: &[u32], bytes: &[u8], i: usize, j: usize) -> bool {
-    compare::is(ask::ask(bytes, i, j), plain::least(column, i, j))
-}
-
 // The asks that begin at i. Between two ends, skip entries are left out.
 fn from(tally: Tally, column: &[u32], bytes: &[u8], i: usize, skip: usize) -> Tally {
     let step = 1 + skip % 32768;
     let mut t = tally;
     let mut j = i;
     while j < column.len() {
-        t = t.of(right(column, bytes, i, j));
+        t = t.of(compare::is(ask::ask(bytes, i, j), plain::least(column, i, j)));
         j += step;
     }
     t

@@ -17,18 +17,11 @@ fn asked(tally: Tally, bytes: &[u8]) -> Tally {
     asks::all(tally, part::counts(&column, n), bytes, 0)
 }
 
-// The framed string of n entries whose one or two bytes behind the head are the number b.
+// The string of n entries whose one or two bytes behind the head are the number b.
 fn body(tally: Tally, seen: &mut [usize; 12], n: usize, b: usize) -> Tally {
-    let bytes = [
-        0x52,
-        0x4D,
-        (n % 256) as u8,
-        0,
-        (b % 256) as u8,
-        (b / 256 % 256) as u8,
-    ];
-    let some = part::bytes(&bytes, 4 + (n % 256 + 3) / 4);
-    asked(judge::string(tally, seen, some), some)
+    let six = plain::six(0x524D, n, b);
+    let bytes = part::bytes(&six, 4 + (n % 256 + 3) / 4);
+    asked(judge::string(tally, seen, bytes), bytes)
 }
 
 fn run(seen: &mut [usize; 12], n: usize, count: usize) -> Tally {

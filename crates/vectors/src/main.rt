@@ -11,16 +11,20 @@ mod part;
 mod plain;
 mod print;
 mod random;
+mod refused;
 mod small;
 mod strings;
 mod tally;
 
 fn main() {
     small::columns();
-    small::records();
-    small::refused();
+    small::asks();
+    small::stand_ins();
+    refused::frames();
+    refused::insides();
     long::columns();
-    long::refused();
+    refused::long_columns();
+    refused::long_records();
     every::bodies();
     random::columns();
     damage::records();

@@ -53,22 +53,35 @@ fn shape(column: &[u32], out: &mut [u8], p: usize) -> usize {
     shape(&column[next..], out, closed)
 }
 
-// The record of a column of fewer than 256 entries, at the start of the output. It gives the length.
+// The head of a record of n entries.
+pub fn head(out: &mut [u8], n: usize) {
+    put(out, 0, 0x52);
+    put(out, 1, 0x4D);
+    put(out, 2, (n % 256) as u8);
+    put(out, 3, (n / 256 % 256) as u8);
+}
+
+// The record of a column, at the start of the output. It gives the length.
 pub fn record(column: &[u32], out: &mut [u8]) -> usize {
     let n = column.len();
-    if 255 < n {
-        return 0;
-    }
     if out.len() < 4 {
         return 0;
     }
-    put(out, 0, 0x52);
-    put(out, 1, 0x4D);
-    put(out, 2, n as u8);
-    put(out, 3, 0);
-    let body = &mut out[4..];
-    shape(column, body, 0);
+    head(out, n);
+    shape(column, &mut out[4..], 0);
     4 + (n + 3) / 4
+}
+
+// Six bytes: a mark, its first byte highest; n and a body, their first byte lowest.
+pub fn six(mark: usize, n: usize, body: usize) -> [u8; 6] {
+    [
+        (mark / 256 % 256) as u8,
+        (mark % 256) as u8,
+        (n % 256) as u8,
+        (n / 256 % 256) as u8,
+        (body % 256) as u8,
+        (body / 256 % 256) as u8,
+    ]
 }
 
 fn at(bytes: &[u8], k: usize) -> u8 {

@@ -6,6 +6,10 @@ pub fn text(s: &[u8]) {
     io::write_all(1, s);
 }
 
+pub fn end() {
+    text(b"\n");
+}
+
 pub fn decimal(n: usize) {
     io::print_decimal(1, n as u64);
 }
@@ -22,21 +26,17 @@ fn byte(b: u8) {
     text(&[b' ', digit(b / 16), digit(b % 16)]);
 }
 
-fn count(v: u32) {
-    text(b" ");
-    decimal(v as usize);
-}
-
-fn place(v: u16) {
-    count(v as u32);
-}
-
 pub fn bytes(s: &[u8]) {
     let mut k = 0;
     while k < s.len() {
         byte(s[k]);
         k += 1;
     }
+}
+
+fn count(v: u32) {
+    text(b" ");
+    decimal(v as usize);
 }
 
 pub fn counts(s: &[u32]) {
@@ -47,12 +47,28 @@ pub fn counts(s: &[u32]) {
     }
 }
 
+fn number16(v: u16) {
+    count(v as u32);
+}
+
 pub fn work(s: &[u16]) {
     let mut k = 0;
     while k < s.len() {
-        place(s[k]);
+        number16(s[k]);
         k += 1;
     }
+}
+
+// What is lent: room for so many bytes or numbers.
+pub fn into(room: usize) {
+    text(b" into ");
+    decimal(room);
+}
+
+// What is lent besides: so many numbers of work.
+pub fn with(numbers: usize) {
+    text(b" with ");
+    decimal(numbers);
 }
 
 // The refusal's number in document 01.
@@ -78,11 +94,11 @@ pub fn number(r: Refusal) -> usize {
 pub fn answer(a: Answer) {
     match a {
         Answer::Is(v) => {
-            text(b" ");
+            text(b": ");
             decimal(v);
         }
         Answer::Refused(r) => {
-            text(b" refused ");
+            text(b": refused ");
             decimal(number(r));
         }
     }

@@ -12,45 +12,41 @@ pub fn next(x: u64) -> u64 {
     (x % 4294967296 * 1664525 + 1013904223) % 4294967296
 }
 
-// Random entries below `values`. It gives the number to go on from.
-pub fn fill(column: &mut [u32], seed: u64, values: u64) -> u64 {
+// Random entries below `values`.
+pub fn fill(column: &mut [u32], seed: u64, values: u64) {
+    if values == 0 {
+        return;
+    }
     let mut x = seed;
     let mut k = 0;
-    if values == 0 {
-        return x;
-    }
     let part = 4294967295 / values % 4294967296 + 1;
     while k < column.len() {
         x = next(x);
         column[k] = (x / part % 4294967296) as u32;
         k += 1;
     }
-    x
 }
 
 struct Run {
-    x: u64,
     columns: Tally,
     asks: Tally,
 }
 
 // A column of at most 200 entries, with more work and output lent than it needs.
-fn column(run: Run, x: u64, column: &[u32]) -> Run {
+fn column(run: Run, column: &[u32]) -> Run {
     let mut work = [7u16; 202];
     let mut out = [0xEEu8; 56];
     let mut like = [0xEEu8; 56];
     let a = build::build(column, &mut work, &mut out);
     let size = plain::record(column, &mut like);
-    let whole = compare::cleared(&work, column.len());
+    let bytes = part::bytes(&out, size);
     let columns = run.columns;
     let asks = run.asks;
     let t = columns
         .of(compare::is(a, size))
-        .of(whole)
+        .of(compare::cleared(&work, column.len()))
         .of(compare::bytes(&out, &like));
-    let bytes = part::bytes(&out, size);
     Run {
-        x,
         columns: judge::passed(t, bytes),
         asks: asks::all(asks, column, bytes, 0),
     }
@@ -59,14 +55,13 @@ fn column(run: Run, x: u64, column: &[u32]) -> Run {
 // A column of n entries.
 fn turn(run: Run, n: usize, values: u64) -> Run {
     let mut entries = [0u32; 200];
-    let x = fill(part::counts_mut(&mut entries, n), run.x, values);
-    column(run, x, part::counts(&entries, n))
+    fill(&mut entries, n as u64, values);
+    column(run, part::counts(&entries, n))
 }
 
 // A column of each length up to 200.
 fn lengths(values: u64) -> Run {
     let mut run = Run {
-        x: values,
         columns: Tally::new(),
         asks: Tally::new(),
     };

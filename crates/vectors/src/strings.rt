@@ -1,4 +1,4 @@
-// Random strings of bytes, most of them marked and as long as they say, or a byte shorter or longer.
+// Random strings of bytes with the head of a record, as long as that says, or a byte shorter or longer.
 use crate::judge;
 use crate::part;
 use crate::plain;
@@ -16,22 +16,13 @@ fn fill(bytes: &mut [u8], seed: u64) {
     }
 }
 
-// One byte in eight stays as it is.
-fn mostly(b: u8, usual: u8) -> u8 {
-    if b % 8 == 0 { b } else { usual }
-}
-
-fn string(tally: Tally, seen: &mut [usize; 12], seed: u64) -> Tally {
-    let mut bytes = [0u8; 16];
-    fill(&mut bytes, seed);
-    bytes[0] = mostly(bytes[0], 0x52);
-    bytes[1] = mostly(bytes[1], 0x4D);
-    bytes[2] = bytes[2] % 33;
-    bytes[3] = mostly(bytes[3], 0);
-    let n = plain::entries(&bytes) % 256;
-    let more = bytes[15] % 3;
-    let size = 3 + (n + 3) / 4 + more as usize;
-    judge::string(tally, seen, part::bytes(&bytes, size))
+fn string(tally: Tally, seen: &mut [usize; 12], k: u64) -> Tally {
+    let n = (k % 33) as usize;
+    let more = (k / 33 % 3) as usize;
+    let mut bytes = [0u8; 14];
+    fill(&mut bytes, k);
+    plain::head(&mut bytes, n);
+    judge::string(tally, seen, part::bytes(&bytes, 3 + (n + 3) / 4 + more))
 }
 
 fn run(seen: &mut [usize; 12]) -> Tally {

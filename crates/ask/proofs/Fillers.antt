@@ -7,7 +7,7 @@ use native.Mathlib.Numerals.{add-one}
 use native.Mathlib.Decide.{decLt}
 use native.Mathlib.Omega.{arith}
 use mathlib.Core.Bool.{Bool, true, false, cond}
-use mathlib.Core.List.{List, [], _∷_, _++_}
+use mathlib.Core.List.{List, _∷_, _++_}
 use borrow.Author.Tests.{lt-ltb}
 use lib.Dec.{ltb}
 use lib.ListN.{length, take, drop, getD, replicate, List·getD-append, List·getD-eq-default}
@@ -17,7 +17,7 @@ use Rattle.rules.specs.Bytes.{lowBits}
 use Rattle.rules.proofs.Bytes.{lowBits-length}
 use Rattle.scan.specs.declared.Scan.{Scan}
 use Rattle.scan.specs.Scan.{seen, stepOf, scanOf}
-use Rattle.scan.proofs.Laws.{scan-append, seen-least, scan-least, scan-openings}
+use Rattle.scan.proofs.Laws.{scan-append, scan-least, some-least, scan-openings}
 use Rattle.ask.specs.Byte.{begun, shorter, Begins}
 
 -- ---- closings before a closing
@@ -47,13 +47,6 @@ scan-closings e m q p (suc x) s h =
     step = let f : pred (e + suc x + 1) ≡ e + x + 1 = omega arith in rw f
 
 -- ---- openings behind
-
--- after any parenthesis the smallest is not above the excess
-some-least : (st : Scan) (p : ℕ) (s : List Paren) → 0 < length s → scanOf st p s .smallest ≤ scanOf st p s .excess
-unfolding scanOf stepOf
-some-least st p [] h = absurd (omega arith)
-some-least st p (opening ∷ s) h = scan-least (stepOf st p opening) (suc p) s (seen-least st p (suc (st .excess)))
-some-least st p (closing ∷ s) h = scan-least (stepOf st p closing) (suc p) s (seen-least st p (pred (st .excess)))
 
 -- x is what has been read with u openings behind: take them off the excess
 pub record Undone (u : ℕ) (x y : Scan) : Type 0 where

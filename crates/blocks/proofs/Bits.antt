@@ -5,7 +5,7 @@ use Prim.Native.Nat.{ℕ, zero, suc, _+_, _-_, _*_, _/_, _%_, _^_, _≤_, _<_}
 use native.Mathlib.Nat.{zero-add, suc-add, div-one, mul-comm}
 use native.Mathlib.Numerals.{add-one, one-add}
 use native.Mathlib.Omega.{arith}
-use mathlib.Core.List.{List, [], _∷_, _++_}
+use mathlib.Core.List.{List, _∷_, _++_}
 use lib.Pow.{shr-shr, field, mod-mod-pow, high, low as low-digits}
 use Rattle.rules.specs.Shape.{Paren}
 use Rattle.rules.specs.Excess.{closings, closingPlace}

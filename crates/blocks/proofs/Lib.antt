@@ -5,5 +5,6 @@ pub mod Loaded
 pub mod Lanes
 pub mod Counts
 pub mod Sums
+pub mod Marks
 pub mod Searching
 pub mod Standing

@@ -1,6 +1,6 @@
 -- Bytes as one number: two numbers of j bytes each make one of twice as many.
 -- Assumes nothing.
-use mathlib.Core.Path.{_≡_, ap, sym, _∙_}
+use mathlib.Core.Path.{_≡_, sym}
 use Prim.Native.Nat.{ℕ, _+_, _*_, _^_, _<_}
 use native.Mathlib.Nat.{mul-comm}
 use native.Mathlib.Omega.{arith}
@@ -9,7 +9,6 @@ use lib.Arith.{digits-lt}
 use lib.ListN.{length, take, drop, getD}
 use lib.Pow.{pow-add}
 use lib.Seq.{take-add, drop-drop}
-use Rattle.rules.specs.Bytes.{lowBits, allBits}
 use Rattle.rules.proofs.Bytes.{allBits-append}
 use Rattle.blocks.specs.Select.{Loads}
 use Rattle.blocks.proofs.Bits.{lowBits-join}

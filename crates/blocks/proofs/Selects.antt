@@ -1,20 +1,22 @@
 -- The place of a closing among bytes: in the bytes just ahead, or else in those behind them.
 -- Assumes nothing.
 use mathlib.Core.Path.{_≡_, refl, ap, sym, _∙_}
-use Prim.Native.Nat.{ℕ, _+_, _-_, _*_, _≤_, _<_, zero-le}
+use Prim.Native.Nat.{ℕ, _+_, _-_, _*_, _/_, _≤_, _<_, zero-le}
 use native.Mathlib.Omega.{arith}
 use mathlib.Core.Bool.{Bool, true, false}
-use mathlib.Core.List.{List, [], _∷_, _++_, append-nil}
+use mathlib.Core.List.{List, [], _++_, append-nil}
 use borrow.Author.Tests.{ltb-true, ltb-false, lt-ltb, le-ltb}
 use lib.Dec.{ltb}
 use lib.ListN.{length, take, drop, getD, length-append, length-take, length-drop, take-append-drop, drop-of-length-le}
-use lib.Seq.{drop-drop, drop-cons}
+use lib.Seq.{take-append-le, drop-drop, drop-cons}
 use Rattle.rules.specs.Shape.{Paren}
 use Rattle.rules.specs.Excess.{closings, closingPlace}
 use Rattle.rules.specs.Bytes.{lowBits, allBits}
 use Rattle.rules.proofs.Excess.{closings-append}
+use Rattle.rules.proofs.ClosingPlace.{closing-within}
 use Rattle.rules.proofs.Bytes.{allBits-length, allBits-append}
 use Rattle.rules.proofs.Parts.{closing-first, closing-second}
+use Rattle.rules.proofs.Blocks.{in-block}
 use Rattle.blocks.specs.Select.{selectOf}
 
 pub select-first : (s t : List Paren) (k : ℕ) → k < closings s → selectOf (s ++ t) k ≡ closingPlace s k
@@ -37,6 +39,19 @@ select-second s t k h = by (ltb (k - closings s) (closings t)) refl
 pub select-nil : (k : ℕ) → selectOf [] k ≡ 0
 unfolding selectOf closings
 select-nil k = rw (le-ltb k 0 zero-le)
+
+pub select-there : (s : List Paren) (k : ℕ) → k < closings s → selectOf s k ≡ closingPlace s k
+unfolding selectOf
+select-there s k h = rw (lt-ltb k (closings s) h)
+
+-- closing i of s stands in block k: it is found among the bits of that block, with whatever is behind s
+pub select-block : (s t : List Paren) (i k : ℕ) → i < closings s → closingPlace s i / 256 ≡ k
+    → 256 * k + selectOf (take 256 (drop (256 * k) (s ++ t))) (i - closings (take (256 * k) s)) ≡ closingPlace s i
+select-block s t i k h e =
+    let place = closing-first s t i h in
+    let front : take (256 * k) (s ++ t) ≡ take (256 * k) s = take-append-le (256 * k) s t (omega (arith, closing-within s i h)) in
+    let w = rw front at (in-block (s ++ t) i k (omega (arith, closings-append s t)) (rw place e)) in
+    rw (select-there (take 256 (drop (256 * k) (s ++ t))) (i - closings (take (256 * k) s)) (w .among)) (sym (w .stands) ∙ place)
 
 -- ---- bytes from number at on
 

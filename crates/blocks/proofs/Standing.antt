@@ -6,10 +6,10 @@ use Prim.Native.Nat.{ℕ, zero, suc, min, _+_, _-_, _*_, _/_, _≤_, _<_}
 use native.Mathlib.Decide.{decLt}
 use native.Mathlib.Omega.{arith}
 use mathlib.Core.List.{List}
-use lib.ListN.{length, take, getD}
+use lib.ListN.{take, getD}
 use Rattle.rules.specs.Shape.{Paren}
 use Rattle.rules.specs.Excess.{closings, closingPlace, excess}
-use Rattle.rules.specs.Summary.{none, blocksFor, slot, closingBlock}
+use Rattle.rules.specs.Summary.{none, blocksFor, closingBlock}
 use Rattle.rules.proofs.Excess.{counts-length}
 use Rattle.rules.proofs.ClosingPlace.{closing-within, closing-among, closing-order}
 use Rattle.rules.proofs.Summary.{filled-at, slot-end, slot-closing, end-stands, closing-block, no-closing}

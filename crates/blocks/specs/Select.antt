@@ -19,15 +19,17 @@ pub record Loads (j : ℕ) (bs : List ℕ) (at r : ℕ) : Type 0 where
   pub fits : r < 2 ^ (8 * j)
   pub bits : lowBits (8 * j) r ≡ allBits (take j (drop at bs))
 
--- the closings of each of n bytes, in the bytes of a number
-unfoldable pub countsOf : ℕ → ℕ → ℕ
-countsOf zero x = 0
-countsOf (suc n) x = closings (lowBits 8 x) + 256 * countsOf n (x / 256)
+-- the number whose n bytes are a 0, a 1, .. , a (n - 1), lowest first
+unfoldable pub joined : ℕ → (ℕ → ℕ) → ℕ
+joined zero a = 0
+joined (suc n) a = a 0 + 256 * joined n (λ j. a (suc j))
 
--- the same, each with those of the bytes before it, of which there are e before the first
-unfoldable pub sumsOf : ℕ → ℕ → ℕ → ℕ
-sumsOf zero e x = 0
-sumsOf (suc n) e x = e + closings (lowBits 8 x) + 256 * sumsOf n (e + closings (lowBits 8 x)) (x / 256)
+-- the closings of byte j of x, and those up to and with that byte
+abbrev pub countAt : ℕ → ℕ → ℕ
+countAt x j = closings (lowBits 8 (x / 2 ^ (8 * j)))
+
+abbrev pub sumAt : ℕ → ℕ → ℕ
+sumAt x j = closings (lowBits (8 * suc j) x)
 
 -- what is asked of the w lowest bits in n is asked of the v lowest bits in r
 pub record Leads (w : ℕ) (n : Narrow) (v : ℕ) (r : Narrow) : Type 0 where

@@ -114,7 +114,7 @@ fn last(t: &[u16], blocks: usize, first: usize, q: usize) -> usize
 // that number. Most often it is one of three, told by two ends that are read side by side; else it is
 // searched for.
 pub fn block(t: &[u16], blocks: usize, i: usize) -> usize
-    requires { ⌜ (896 ≤ length (now t)) × (1 ≤ blocks) × (blocks ≤ 256) × (i < 32768) ⌝ }
+    requires { ⌜ (896 ≤ length (now t)) × (blocks ≤ 256) × (i < 32768) ⌝ }
     ensures { λ r. ⌜ StandsIn (now (t .entry)) blocks i r ⌝ }
 {
     let q = i / 256;
@@ -133,11 +133,12 @@ pub fn block(t: &[u16], blocks: usize, i: usize) -> usize
 
 // The excess before block k.
 pub fn before(t: &[u16], k: usize) -> usize
-    requires { ⌜ k ≤ length (now t) ⌝ }
+    requires { ⌜ k < length (now t) ⌝ }
     ensures { λ r. ⌜ Before (now (t .entry)) k r ⌝ }
 {
     if k == 0 {
         return 0;
     }
-    t[k - 1] as usize
+    let last = k - 1;
+    t[last] as usize
 }

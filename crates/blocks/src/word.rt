@@ -5,7 +5,7 @@ ghost use Prim.Native.Nat.{_+_, _≤_, _<_};
 ghost use lib.ListN.{length, take, drop};
 ghost use Rattle.rules.specs.Excess.{closings};
 ghost use Rattle.rules.specs.Bytes.{lowBits, allBits};
-ghost use Rattle.blocks.specs.Select.{Loads, countsOf, sumsOf, Leads};
+ghost use Rattle.blocks.specs.Select.{Loads, joined, countAt, sumAt, Leads};
 
 fn wide(b: u8) -> u64
     ensures { λ r. ⌜ (r ≡ b) × (r < 256) ⌝ }
@@ -21,6 +21,7 @@ fn two(part: &[u8], at: usize) -> u64
     wide(part[at]) + 0x100 * wide(part[at + 1])
 }
 
+// Four of them.
 fn four(part: &[u8], at: usize) -> u64
     requires { ⌜ at + 4 ≤ length (now part) ⌝ }
     ensures { λ r. ⌜ Loads 4 (now (part .entry)) at r ⌝ }
@@ -38,7 +39,7 @@ pub fn word(part: &[u8], at: usize) -> u64
 
 // The closings of each byte, all eight at once: bits by twos, by fours, by eights.
 fn counts(x: u64) -> u64
-    ensures { λ r. ⌜ r ≡ countsOf 8 x ⌝ }
+    ensures { λ r. ⌜ r ≡ joined 8 (countAt x) ⌝ }
 {
     let y = 0xffff_ffff_ffff_ffff - x;
     let a = y - ((y & 0xaaaa_aaaa_aaaa_aaaa) >> 1);
@@ -48,7 +49,7 @@ fn counts(x: u64) -> u64
 
 // The same, each with those of the bytes before it.
 pub fn sums(x: u64) -> u64
-    ensures { λ r. ⌜ r ≡ sumsOf 8 0 x ⌝ }
+    ensures { λ r. ⌜ r ≡ joined 8 (sumAt x) ⌝ }
 {
     let c = counts(x);
     let d = c + (c << 8);
@@ -59,7 +60,7 @@ pub fn sums(x: u64) -> u64
 // From a word to the byte in which the closing stands. Each byte of the sums is taken from 128 + k, and
 // so keeps its highest bit just where no more than k closings are passed.
 pub fn to_byte(n: Narrow, sums: u64) -> Narrow
-    requires { ⌜ (sums ≡ sumsOf 8 0 (n .bits)) × (n .k < closings (lowBits 64 (n .bits))) × (n .at ≤ 1048576) ⌝ }
+    requires { ⌜ (sums ≡ joined 8 (sumAt (n .bits))) × (n .k < closings (lowBits 64 (n .bits))) × (n .at ≤ 1048576) ⌝ }
     ensures { λ r. ⌜ Leads 64 n 8 r ⌝ }
 {
     let k = n.k as u64;

@@ -8,7 +8,7 @@ use mathlib.Core.List.{List, _++_}
 use lib.ListN.{length, take, drop, take-append-drop, length-take, length-drop}
 use lib.Seq.{take-add, length-take-le}
 use Rattle.rules.specs.Shape.{Paren}
-use Rattle.rules.specs.Excess.{openings, closings, closingPlace, excess, Balanced}
+use Rattle.rules.specs.Excess.{closings, closingPlace, excess, Balanced}
 use Rattle.rules.specs.Summary.{blocksFor, blockEnd}
 use Rattle.rules.proofs.Excess.{closings-append, counts-length}
 use Rattle.rules.proofs.ClosingPlace.{closings-more, closing-stands}

@@ -2,18 +2,18 @@
 -- Assumes nothing.
 use mathlib.Core.Path.{_≡_, refl, ap, sym, _∙_}
 use Prim.Native.Nat.{ℕ, zero, suc, min, _+_, _-_, _*_, _/_, _^_, _≤_, _<_}
-use native.Mathlib.Nat.{pow-succ'}
+use native.Mathlib.Nat.{pow-succ', min-eq-left}
 use native.Mathlib.Decide.{decLe}
 use native.Mathlib.Omega.{arith}
 use mathlib.Core.List.{List, [], _∷_}
 use borrow.Author.Tests.{lt-ltb, le-ltb, le-leb, lt-leb, ne-eqb}
 use lib.ListN.{length, take, drop, getD, length-take, length-drop, drop-of-length-le, take-append-drop}
-use lib.Seq.{getD-take, getD-drop}
+use lib.Seq.{getD-take, getD-drop, take-all}
 use Rattle.rules.specs.Shape.{Paren}
 use Rattle.rules.specs.Excess.{openings, closings, closingPlace, excess, excesses, Balanced}
 use Rattle.rules.specs.Bytes.{most}
 use Rattle.rules.specs.Summary.{slots, none, blocksFor, inBlock, lastOf, smallestOf, blockEnd, leaf, nodeOf, node, closingBlock, slot, summaryOf}
-use Rattle.rules.proofs.Excess.{length-listOf, getD-listOf, excesses-length, excesses-at, openings-append, counts-length}
+use Rattle.rules.proofs.Excess.{length-listOf, getD-listOf, excesses-length, excesses-at, excesses-take, excesses-drop, openings-append, counts-length}
 
 -- ---- 896 slots
 
@@ -98,6 +98,10 @@ unfolding smallestOf
 smallest-few [] = omega arith
 smallest-few (x ∷ l) = omega (arith, smallest-few l)
 
+pub leaf-few : (s : List Paren) (k : ℕ) → leaf s k ≤ none
+unfolding leaf
+leaf-few s k = smallest-few (inBlock s k)
+
 -- where it is not what no number at all would give, it stands somewhere
 smallest-stands : (l : List ℕ) → smallestOf l < none → (c : ℕ) × (c < length l) × (smallestOf l ≡ getD l c 0)
 unfolding smallestOf
@@ -116,6 +120,13 @@ pub excess-few : (s : List Paren) (b : ℕ) → excess 0 s b ≤ openings s
 unfolding excess
 excess-few s b =
     omega (arith, openings-append (take (b + 1) s) (drop (b + 1) s), ap openings (take-append-drop (b + 1) s))
+
+-- a block's excesses are those of its own parentheses, from the excess before it on
+pub block-alone : (s : List Paren) (k e : ℕ) → e + closings (take (256 * k) s) ≡ openings (take (256 * k) s)
+    → inBlock s k ≡ excesses e (take 256 (drop (256 * k) s))
+unfolding inBlock
+block-alone s k e h =
+    rw (excesses-drop 0 e s (256 * k) (omega arith), excesses-take)
 
 -- ---- the blocks of n entries' parentheses
 
@@ -150,6 +161,23 @@ module _ (s : List Paren) (n : ℕ) (long : length s ≡ 2 * n) where
       let m = block-length k in
       let e : 256 * k + (length (inBlock s k) - 1) ≡ min (256 * (k + 1)) (2 * n) - 1 = omega arith in
       last-at (inBlock s k) (omega arith) ∙ block-at k (length (inBlock s k) - 1) (omega arith) (omega arith) ∙ ap (excess 0 s) e
+
+  -- it tells how many closings stand up to the block's end
+  pub end-closings : Balanced s → (k : ℕ) → k < blocksFor n → blockEnd s k + 2 * closings (take (256 * (k + 1)) s) ≡ min (256 * (k + 1)) (2 * n)
+  unfolding excess
+  end-closings balance k h =
+      let m = min (256 * (k + 1)) (2 * n) in
+      let e : m - 1 + 1 ≡ m = omega arith in
+      let end : blockEnd s k ≡ 0 + openings (take (256 * (k + 1)) s) - closings (take (256 * (k + 1)) s) = rw (e, same (decLe (256 * (k + 1)) (2 * n))) at (end-stands k h) in
+      omega (arith, balance .above (256 * (k + 1)), counts-length (take (256 * (k + 1)) s), length-take (256 * (k + 1)) s)
+    where
+      same : Dec (256 * (k + 1) ≤ 2 * n) → take (min (256 * (k + 1)) (2 * n)) s ≡ take (256 * (k + 1)) s
+      same (yes l) = rw (min-eq-left l)
+      same (no l) = rw (take-all (min (256 * (k + 1)) (2 * n)) s (omega arith), take-all (256 * (k + 1)) s (omega arith))
+
+  pub end-few : Balanced s → (k : ℕ) → k < blocksFor n → blockEnd s k ≤ n
+  end-few balance k h =
+      omega (arith, end-stands k h, excess-few s (min (256 * (k + 1)) (2 * n) - 1), balance .last, counts-length s)
 
   pub no-end : (k : ℕ) → blocksFor n ≤ k → blockEnd s k ≡ none
   unfolding blockEnd lastOf

@@ -1,6 +1,6 @@
 -- `blocks::block` meets its contract: one of three blocks, or a search from the block of closing 256q to that of closing 256(q + 1), or
 -- to the last one. Assumes nothing.
-use mathlib.Core.Path.{_≡_, refl}
+use mathlib.Core.Path.{refl}
 use Prim.Native.Nat.{_+_, _/_}
 use native.Mathlib.Omega.{arith}
 use borrow.Author.Needs.{needs}

@@ -27,10 +27,10 @@ add-if1-2 : tie.Need-add-if1-2
 add-if1-2 c = omega (arith, c .shared-slice-known .given (c .before .args .b))
 
 returns : tie.Need-returns
-returns c = search needs
+returns c = record { few = omega arith; behind = λ h. omega arith; ahead = λ e. absurd (omega arith) }
 
 returns-2 : tie.Need-returns-2
-returns-2 c = search needs
+returns-2 c = record { few = omega arith; behind = λ h. absurd (omega arith); ahead = λ e. omega arith }
 
 pub passed-spec : {M : Type 1} → statement M
 passed-spec =

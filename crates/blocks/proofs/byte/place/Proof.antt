@@ -1,6 +1,6 @@
 -- `blocks::byte::place` meets its contract, by the test over all of four bits and their closings.
 -- Assumes nothing.
-use mathlib.Core.Path.{_≡_, _∙_, sym}
+use mathlib.Core.Path.{_≡_, _∙_}
 use mathlib.Core.Logic.{⊎-elim}
 use borrow.Author.Needs.{needs}
 use borrow.Author.Tests.{lt-ltb, le-ltb}

@@ -1,7 +1,7 @@
 -- `blocks::word::counts` meets its contract: no byte reaches into the next.
 -- Assumes nothing.
 use borrow.Author.Needs.{needs}
-use Rattle.blocks.proofs.Counts.{low, fours-fit, eights-fit, counted}
+use Rattle.blocks.proofs.Counts.{odd-fits, fours-fit, counts-fit, counted}
 use Rattle.blocks.proofs.word.counts.Statement.{statement}
 use Rattle.blocks.proofs.word.counts.Tie as tie
 
@@ -9,13 +9,13 @@ sub-y : tie.Need-sub-y
 sub-y c = search needs
 
 sub-a : tie.Need-sub-a
-sub-a c = low (c .args .x) (c .fits .x .fits)
+sub-a c = odd-fits (c .args .x) (c .fits .x .fits)
 
 add-b : tie.Need-add-b
 add-b c = record { fits = fours-fit (c .args .x) (c .fits .x .fits) }
 
 add-result : tie.Need-add-result
-add-result c = record { fits = eights-fit (c .args .x) (c .fits .x .fits) }
+add-result c = record { fits = counts-fit (c .args .x) (c .fits .x .fits) }
 
 returns : tie.Need-returns
 returns c = counted (c .args .x) (c .fits .x .fits)

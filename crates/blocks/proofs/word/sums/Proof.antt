@@ -1,9 +1,7 @@
 -- `blocks::word::sums` meets its contract: the counts, added up byte by byte.
 -- Assumes nothing.
-use mathlib.Core.Path.{_≡_}
 use borrow.Author.Needs.{needs}
-use Rattle.blocks.specs.Select.{sumsOf}
-use Rattle.blocks.proofs.Sums.{sums-made, once, twice, thrice}
+use Rattle.blocks.proofs.Sums.{sums-made}
 use Rattle.blocks.proofs.word.sums.Statement.{statement}
 use Rattle.blocks.proofs.word.sums.Tie as tie
 

@@ -4,7 +4,7 @@ use native.Mathlib.Omega.{arith}
 use borrow.Author.Needs.{needs}
 use lib.Count.{leading-le}
 use Rattle.blocks.proofs.Bits.{leads}
-use Rattle.blocks.proofs.Sums.{Narrows, narrows, marks, start, behind}
+use Rattle.blocks.proofs.Marks.{Narrows, narrows, marks, start}
 use Rattle.blocks.proofs.word.to_byte.Statement.{statement}
 use Rattle.blocks.proofs.word.to_byte.Tie as tie
 
@@ -36,7 +36,7 @@ shr-t9 : tie.Need-shr-t9
 shr-t9 c = let w = at (c .before) .within in omega arith
 
 sub-t8 : tie.Need-sub-t8
-sub-t8 c = let w = at (c .before) in rw (w .counted) (w .low)
+sub-t8 c = let w = at (c .before) in rw (w .counted) (w .passed)
 
 cast-t12 : tie.Need-cast-t12
 cast-t12 c = search needs
@@ -47,7 +47,7 @@ add-t13 c = search needs
 returns : tie.Need-returns
 returns c =
     let w = at (c .before .before) in
-    rw (w .counted) (leads (start (c .before .before .args .sums) (c .before .before .args .n .k)) 8 64 (c .before .before .args .n) (w .within) (w .low) (w .ahead))
+    rw (w .counted) (leads (start (c .before .before .args .sums) (c .before .before .args .n .k)) 8 64 (c .before .before .args .n) (w .within) (w .passed) (w .ahead))
 
 pub to-byte-spec : {M : Type 1} → statement M
 to-byte-spec =

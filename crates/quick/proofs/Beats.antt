@@ -20,7 +20,7 @@ use Rattle.scan.specs.Scan.{seen, stepOf, scanOf}
 use Rattle.scan.proofs.Laws.{scan-append}
 use Rattle.quick.specs.Lowest.{Lowest, Beats}
 
-split : (a b : ℕ) {A : Type 0} → (a < b → A) → (b ≤ a → A) → A
+pub split : (a b : ℕ) {A : Type 0} → (a < b → A) → (b ≤ a → A) → A
 split a b {A} f g = by (ltb a b) refl
   where
     by : (t : Bool) → ltb a b ≡ t → A
@@ -126,6 +126,18 @@ module _ (X : ℕ → ℕ) where
             (place ∙ place₁, λ p g u. either p (λ v. rest₁ p g v) (λ v. le-trans (omega (arith, two .bound)) (rest p v u)));
           lower = λ l. split (st′ .smallest) (st .smallest) (λ s. later s h) (λ s. kept s (omega arith) k)
         }
+
+  -- everything before the stretch is higher, everything behind it not lower
+  pub low-later : {a b c d : ℕ} {st : Scan} → a ≤ b → c ≤ d → Lowest X b c st → ((p : ℕ) → a ≤ p → p < b → st .smallest < X p)
+      → ((p : ℕ) → c ≤ p → p < d → st .smallest ≤ X p) → Lowest X a d st
+  low-later {a} {b} {c} {d} {st} h k low before after =
+      record {
+        from = omega (arith, low .from);
+        upto = omega (arith, low .upto);
+        here = low .here;
+        before = λ p g l. split p b (λ u. before p g u) (λ u. low .before p u l);
+        after = λ p g l. split p b (λ u. le-of-lt (before p g u)) (λ u. split p c (λ v. low .after p u v) (λ v. after p v l))
+      }
 
   pub low-join : {a b c : ℕ} {st st′ : Scan} → a ≤ b → b ≤ c → Lowest X a b st → Beats X b c (st .smallest) (st .place) st′ → Lowest X a c st′
   low-join {a} {b} {c} {st} {st′} h k low two =

@@ -4,3 +4,4 @@ pub mod Closings
 pub mod Ours
 pub mod Standing
 pub mod Finishing
+pub mod Middle

@@ -1,17 +1,15 @@
 -- The last block's part behind what stands lowest so far.
 -- Assumes nothing.
-use mathlib.Core.Path.{_≡_, refl, sym, ap, subst, _∙_}
+use mathlib.Core.Path.{_≡_, sym, ap, _∙_}
 use mathlib.Core.Logic.{⊎-elim}
 use Prim.Native.Nat.{ℕ, _+_, _*_, _/_, _≤_, _<_}
 use native.Mathlib.Nat.{le-refl, le-trans}
 use native.Mathlib.Omega.{arith}
 use mathlib.Core.List.{List}
 use lib.ListN.{getD}
-use Rattle.rules.specs.Summary.{blocksFor}
 use Rattle.scan.specs.declared.Scan.{Scan}
 use Rattle.scan.specs.Scan.{Ready}
 use Rattle.blocks.specs.Search.{Before}
-use Rattle.quick.specs.Lowest.{Beats}
 use Rattle.quick.specs.Part.{ground, height, level, ClosingAt, GoesOn}
 use Rattle.quick.specs.Quick.{parensIn, Ours, closingIn, Block, Stands, Finishes}
 use Rattle.quick.proofs.Beats.{beats-idle}
@@ -33,7 +31,7 @@ module _ (body t : List ℕ) (b j : ℕ) (block : Block body b) (low : ℕ) (lea
   not-lower h =
       record {
         bound = le-refl _;
-        right = λ n ours among at some. beats-idle (height body) (256 * b) (closingIn body n j + 1) best (λ p g l. le-trans h (bounds n ours among at p g l))
+        right = λ n ours among at some. beats-idle (height body) (256 * b) (closingIn body n j + 1) best (λ p g l. le-trans h (bounds n ours among at p g l));
       }
 
   -- a closing that is nowhere is none of the record's own
@@ -41,7 +39,7 @@ module _ (body t : List ℕ) (b j : ℕ) (block : Block body b) (low : ℕ) (lea
   nowhere y s e =
       record {
         bound = le-refl _;
-        right = λ n ours among at some. let f = ours .own .few in absurd (omega (arith, s .right n ours among at, closing-low body t n ours j among))
+        right = λ n ours among at some. let f = ours .own .few in absurd (omega (arith, s .right n ours among at, closing-low body t n ours j among));
       }
 
   pub ready-start : (e : ℕ) → e ≤ 65535 → best .smallest ≤ 1048576 → Ready (record { excess = 131072 + e; smallest = best .smallest; place = best .place }) 256
@@ -53,9 +51,9 @@ module _ (body t : List ℕ) (b j : ℕ) (block : Block body b) (low : ℕ) (lea
       record {
         bound = on .bound;
         right = λ n ours among at some.
-          let c = closing-low body t n ours j among in
-          let f : y ≡ closingIn body n j = s .right n ours among at in
-          let g = before .right (parensIn body n) n (ours .own) some (omega arith) in
-          let l : 131072 + e ≡ level body (256 * b) = ap (131072 +_) g ∙ sym (level-own body t n ours (256 * b) (omega arith) (omega arith)) in
-          rw f at (on .right l (λ p u v. bounds n ours among at p u (omega arith)))
+            let c = closing-low body t n ours j among in
+            let f : y ≡ closingIn body n j = s .right n ours among at in
+            let g = before .right (parensIn body n) n (ours .own) some (omega arith) in
+            let l : 131072 + e ≡ level body (256 * b) = ap (131072 +_) g ∙ sym (level-own body t n ours (256 * b) (omega arith) (omega arith)) in
+            rw f at (on .right l (λ p u v. bounds n ours among at p u (omega arith)));
       }

@@ -1,24 +1,23 @@
 -- A block between the first and the last: it stands lowest, unless the last one's part is lower.
 -- Assumes nothing.
-use mathlib.Core.Path.{_≡_, refl, sym, ap, subst, _∙_}
-use Prim.Native.Nat.{ℕ, min, _+_, _-_, _*_, _/_, _≤_, _<_}
-use native.Mathlib.Nat.{le-refl, le-trans}
+use mathlib.Core.Path.{_≡_, sym, ap, _∙_}
+use Prim.Native.Nat.{ℕ, _+_, _*_, _/_, _≤_, _<_}
+use native.Mathlib.Nat.{le-refl}
 use native.Mathlib.Omega.{arith}
 use mathlib.Core.List.{List}
-use lib.ListN.{length, getD}
+use lib.ListN.{getD}
 use Rattle.rules.specs.Excess.{entryBetween}
 use Rattle.rules.specs.Refusal.{Outcome, answer}
-use Rattle.rules.specs.Summary.{blocksFor}
 use Rattle.tree.specs.declared.Best.{Best}
-use Rattle.tree.specs.Tree.{leaf, Halves, Held, Descended}
+use Rattle.tree.specs.Tree.{leaf, Held, Descended}
 use Rattle.tree.proofs.Down.{Leftmost, comes-down}
 use Rattle.scan.specs.declared.Scan.{Scan}
 use Rattle.blocks.specs.Search.{Before}
 use Rattle.quick.specs.Lowest.{Lowest, Beats}
 use Rattle.quick.specs.Part.{ground, height, level, endOf, GoesOn}
-use Rattle.quick.specs.Quick.{parensIn, Ours, closingIn, Block, Asks, Names, Finishes}
+use Rattle.quick.specs.Quick.{parensIn, closingIn, Block, Asks, Names, Finishes}
 use Rattle.quick.proofs.Beats.{split, low-later}
-use Rattle.quick.proofs.Ours.{level-own, level-first, leaf-bounds, Leaf, leaf-there, halves-own, closing-low, counted, between}
+use Rattle.quick.proofs.Ours.{level-own, leaf-bounds, leaf-there, halves-own, closing-low, counted, between}
 
 -- the slot of a leaf
 leaf-slot : (t : List ℕ) (x : ℕ) → leaf t x ≡ getD t (512 + x) 0
@@ -122,6 +121,7 @@ module _ (body t : List ℕ) (n a b i j : ℕ) (asks : Asks body t n a b i j) (f
               let m = most .before in
               split p (256 * a + 256) (λ u. omega (arith, first p g u))
               (λ u. omega (arith, most .leftmost (halves-own body t n (asks .ours)) (p / 256) (omega arith) (omega arith), leaf-slot t (p / 256), leaf-bounds body t n (asks .ours) (p / 256) p (omega arith) (omega arith) (omega arith) (omega arith)))
+
           behind-it : inner .smallest ≡ 131072 + best .low → (p : ℕ) → 256 * k + 256 ≤ p → p < closingIn body n j + 1 → inner .smallest ≤ height body p
           behind-it is p g h =
               let o = most .after in

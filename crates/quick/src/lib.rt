@@ -10,12 +10,11 @@ use tree::Best;
 ghost use mathlib.Core.Path.{_≡_};
 ghost use Prim.Native.Nat.{_+_, _≤_, _<_};
 ghost use lib.ListN.{length, getD};
-ghost use Rattle.rules.specs.Summary.{QuickSays};
 ghost use Rattle.tree.specs.Tree.{Between};
 ghost use Rattle.scan.specs.Rows.{rows as table};
 ghost use Rattle.answers.specs.Said.{said};
-ghost use Rattle.quick.specs.Part.{ground, ClosingAt, Near};
-ghost use Rattle.quick.specs.Quick.{Given, Block, Stands, Names, Finishes, Beyond, Apart, Found, Framed};
+ghost use Rattle.quick.specs.Part.{ground};
+ghost use Rattle.quick.specs.Quick.{Given, Block, Stands, Names, Finishes, Beyond};
 
 // Excesses are counted from here: above twice the number of any entry, so that none is below 0 whatever the
 // summary says.
@@ -94,7 +93,16 @@ fn finish(rows: &[i8; 768], body: &[u8], t: &[u16], b: usize, j: usize, best: Sc
 
 // Where a block between the first and the last stands lowest so far: the last one's part, and if that is not
 // lower, the block that the tree leads to.
-fn beyond(rows: &[i8; 768], body: &[u8], t: &[u16], a: usize, b: usize, best: Best, i: usize, j: usize) -> Answer
+fn beyond(
+    rows: &[i8; 768],
+    body: &[u8],
+    t: &[u16],
+    a: usize,
+    b: usize,
+    best: Best,
+    i: usize,
+    j: usize,
+) -> Answer
     requires { ⌜ (now rows ≡ table) × Given (now body) (now t) × (a < b) × Block (now body) b × (j < 32768) × Between (now t) a b best ⌝ }
     ensures { λ r. ⌜ Beyond (now (body .entry)) (now (t .entry)) a b best i j (said r) ⌝ }
 {
@@ -114,41 +122,4 @@ fn beyond(rows: &[i8; 768], body: &[u8], t: &[u16], a: usize, b: usize, best: Be
     let k = tree::descend(t, best.node, best.level);
     let inner = part::whole(rows, body, k, GROUND + blocks::before(t, k), mid);
     entry(inner.place, inner.smallest, i, j)
-}
-
-// Closing i stands at place x of block a, after it the excess is e; closing j stands in a later block b.
-fn apart(body: &[u8], t: &[u16], a: usize, b: usize, x: usize, e: usize, i: usize, j: usize) -> Answer
-    requires { ⌜ Given (now body) (now t) × (a < b) × Block (now body) b × (j < 32768) × ClosingAt (now body) a x × Near e ⌝ }
-    ensures { λ r. ⌜ Apart (now (body .entry)) (now (t .entry)) a b x e i j (said r) ⌝ }
-{
-    let best = tree::climb(t, a, b);
-    let mid = GROUND + best.low;
-    let low = leaf(t, a);
-    let rows = scan::table();
-    if low <= mid {
-        let first = part::behind(&rows, body, a, x, e, low);
-        if first.smallest <= mid {
-            let end = finish(&rows, body, t, b, j, first);
-            return entry(end.place, end.smallest, i, j);
-        }
-    }
-    beyond(&rows, body, t, a, b, best, i, j)
-}
-
-// Both closings stand in block a.
-fn same(body: &[u8], t: &[u16], a: usize, x: usize, e: usize, i: usize, j: usize) -> Answer
-    requires { ⌜ Given (now body) (now t) × Block (now body) a × (j < 32768) × ClosingAt (now body) a x × Near e ⌝ }
-    ensures { λ r. ⌜ Apart (now (body .entry)) (now (t .entry)) a a x e i j (said r) ⌝ }
-{
-    let y = stands(body, t, a, j);
-    if y == GROUND {
-        return Answer::Refused(Refusal::Foreign);
-    }
-    if y < x {
-        return Answer::Refused(Refusal::Foreign);
-    }
-    let rows = scan::table();
-    let low = leaf(t, a);
-    let end = part::within(&rows, body, a, x, e, y, low);
-    entry(end.place, end.smallest, i, j)
 }

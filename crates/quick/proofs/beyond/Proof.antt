@@ -40,7 +40,7 @@ returns-2 c =
     let a = start .args in
     record {
       allowed = c .entry .ensures .allowed;
-      right = λ n asks first more. named (a .body .now) (a .t .now) n (a .a) (a .b) (a .i) (a .j) asks (start .pre .3 .few) (c .entry .ensures) (last-wins (a .body .now) (a .t .now) n (a .a) (a .b) (a .i) (a .j) asks (start .pre .3 .few) (a .best) (start .pre .5 .some more) more first (c .before .before .before .finish .result) (c .before .before .before .finish .ensures) (c .before .if2 .taken))
+      right = λ n asks first more. named (a .body .now) (a .t .now) n (a .a) (a .b) (a .i) (a .j) asks (start .pre .3 .few) (c .entry .ensures) (last-wins (a .body .now) (a .t .now) n (a .a) (a .b) (a .i) (a .j) asks (start .pre .3 .few) (a .best) (start .pre .5 .some more) more first (c .before .before .before .finish .result) (c .before .before .before .finish .ensures) (c .before .if2 .taken));
     }
 
 descend-requires : tie.Need-descend-requires
@@ -56,7 +56,7 @@ before-requires c κs =
     omega (arith, comes-down (start .pre .5 .some (omega arith)) (c .descend .ensures) .before, start .pre .3 .few, start .pre .1 .slots)
 
 add-whole : tie.Need-add-whole
-add-whole c =     omega (arith, before-small (c .before2 .ensures) (λ m. omega (arith, c .before .before .before .before .before .before .before .shared-slice-known2 .given m)))
+add-whole c = omega (arith, before-small (c .before2 .ensures) (λ m. omega (arith, c .before .before .before .before .before .before .before .shared-slice-known2 .given m)))
 
 whole-requires : tie.Need-whole-requires
 whole-requires c κs =
@@ -75,7 +75,7 @@ returns-3 c =
     let a = start .args in
     record {
       allowed = c .entry2 .ensures .allowed;
-      right = λ n asks first more. named (a .body .now) (a .t .now) n (a .a) (a .b) (a .i) (a .j) asks (start .pre .3 .few) (c .entry2 .ensures) (inner-wins (a .body .now) (a .t .now) n (a .a) (a .b) (a .i) (a .j) asks (start .pre .3 .few) (a .best) (start .pre .5 .some more) more first (c .before .before .before .descend .result) (c .before .before .before .descend .ensures) (start .pre .3) (c .before .before .before .before .before .before .finish .result) (c .before .whole .result) (c .before .before .before2 .result) (c .before .before .before .before .before .before .finish .ensures) (c .before .before .before .before .if2 .left) (c .before .before .before2 .ensures) (c .before .whole .ensures))
+      right = λ n asks first more. named (a .body .now) (a .t .now) n (a .a) (a .b) (a .i) (a .j) asks (start .pre .3 .few) (c .entry2 .ensures) (inner-wins (a .body .now) (a .t .now) n (a .a) (a .b) (a .i) (a .j) asks (start .pre .3 .few) (a .best) (start .pre .5 .some more) more first (c .before .before .before .descend .result) (c .before .before .before .descend .ensures) (start .pre .3) (c .before .before .before .before .before .before .finish .result) (c .before .whole .result) (c .before .before .before2 .result) (c .before .before .before .before .before .before .finish .ensures) (c .before .before .before .before .if2 .left) (c .before .before .before2 .ensures) (c .before .whole .ensures));
     }
 
 pub beyond-spec : {M : Type 1} → statement M

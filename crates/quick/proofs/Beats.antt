@@ -1,14 +1,13 @@
 -- What scans over neighbouring stretches have found together, and that a scan of the bytes finds it.
 -- Assumes nothing.
 use mathlib.Core.Path.{_≡_, refl, sym, ap, subst⁻¹, _∙_}
-use Prim.Native.Nat.{ℕ, zero, suc, pred, _+_, _-_, _≤_, _<_, zero-le}
-use native.Mathlib.Nat.{add-zero, add-suc, le-refl, le-trans, lt-of-le-of-lt, lt-of-lt-of-le, le-of-lt, lt-irrefl, not-le-of-lt}
-use native.Mathlib.Decide.{decLt}
+use Prim.Native.Nat.{ℕ, zero, suc, pred, _+_, _-_, _≤_, _<_}
+use native.Mathlib.Nat.{add-zero, add-suc, le-refl, le-trans, lt-of-lt-of-le, le-of-lt, lt-irrefl}
 use native.Mathlib.Numerals.{add-one}
 use native.Mathlib.Omega.{arith}
 use mathlib.Core.Bool.{Bool, true, false, cond}
 use mathlib.Core.List.{List, [], _∷_, _++_}
-use borrow.Author.Tests.{lt-ltb, le-ltb, ltb-true, ltb-false}
+use borrow.Author.Tests.{ltb-true, ltb-false}
 use lib.Dec.{ltb}
 use lib.ListN.{length, take, drop, getD, length-drop}
 use lib.Seq.{take-suc, getD-drop, length-take-le}
@@ -20,7 +19,7 @@ use Rattle.scan.specs.Scan.{seen, stepOf, scanOf}
 use Rattle.scan.proofs.Laws.{scan-append}
 use Rattle.quick.specs.Lowest.{Lowest, Beats}
 
-split : (a b : ℕ) {A : Type 0} → (a < b → A) → (b ≤ a → A) → A
+pub split : (a b : ℕ) {A : Type 0} → (a < b → A) → (b ≤ a → A) → A
 split a b {A} f g = by (ltb a b) refl
   where
     by : (t : Bool) → ltb a b ≡ t → A
@@ -34,7 +33,7 @@ module _ (X : ℕ → ℕ) where
       record {
         bound = omega arith;
         stands = λ l. (f, λ p g h. absurd (omega arith));
-        lower = λ l. absurd (omega arith)
+        lower = λ l. absurd (omega arith);
       }
 
   -- one excess more
@@ -43,12 +42,15 @@ module _ (X : ℕ → ℕ) where
     where
       at-end : (p : ℕ) → a ≤ p → p < suc b → {A : Type 0} → (p < b → A) → (p ≡ b → A) → A
       at-end p g l f e = split p b f (λ k. e (omega arith))
+
       next : (t : Bool) → Scan
       next t = record { excess = X b; smallest = cond t (X b) (st .smallest); place = cond t b (st .place) }
+
       -- every excess before b is above the smallest, or above m, so above what goes below both
       above : X b < st .smallest → (p : ℕ) → a ≤ p → p < b → X b < X p
       above l p g k =
           split (st .smallest) m (λ s. omega (arith, w .lower s .after p g k)) (λ s. omega (arith, w .stands s .1 p g k))
+
       by : (t : Bool) → ltb (X b) (st .smallest) ≡ t → Beats X a (suc b) m q (next t)
       by true e =
           let l = ltb-true (X b) (st .smallest) e in
@@ -61,8 +63,8 @@ module _ (X : ℕ → ℕ) where
               upto = omega arith;
               here = refl;
               before = λ p g u. above l p g u;
-              after = λ p g u. at-end p g u (λ v. le-of-lt (above l p g v)) (λ v. rw v (le-refl (X b)))
-            }
+              after = λ p g u. at-end p g u (λ v. le-of-lt (above l p g v)) (λ v. rw v (le-refl (X b)));
+            };
           }
       by false e =
           let l = ltb-false (X b) (st .smallest) e in
@@ -74,8 +76,8 @@ module _ (X : ℕ → ℕ) where
               upto = omega (arith, low .upto);
               here = low .here;
               before = low .before;
-              after = λ p g u. at-end p g u (low .after p g) (λ v. rw v l)
-            }
+              after = λ p g u. at-end p g u (low .after p g) (λ v. rw v l);
+            };
           }
 
   -- nothing in the stretch is lower than what was seen before it
@@ -100,7 +102,7 @@ module _ (X : ℕ → ℕ) where
           upto = low .upto;
           here = low .here;
           before = λ p g k. either p (λ u. lt-of-lt-of-le l (first p g u (le-refl _))) (λ u. low .before p u k);
-          after = λ p g k. either p (λ u. first p g u (le-of-lt l)) (λ u. low .after p u k)
+          after = λ p g k. either p (λ u. first p g u (le-of-lt l)) (λ u. low .after p u k);
         }
 
     kept : st .smallest ≤ st′ .smallest → st .smallest < m → b ≤ c → Lowest X a c st′
@@ -113,7 +115,7 @@ module _ (X : ℕ → ℕ) where
           upto = rw place (omega (arith, low .upto));
           here = e ∙ low .here ∙ ap X (sym place);
           before = λ p g k. rw e (low .before p g (rw place at k));
-          after = λ p g k. rw e (either p (λ u. low .after p g u) (λ u. rest p u k))
+          after = λ p g k. rw e (either p (λ u. low .after p g u) (λ u. rest p u k));
         }
 
     pub beats-join : a ≤ b → b ≤ c → Beats X a c m q st′
@@ -121,16 +123,28 @@ module _ (X : ℕ → ℕ) where
         record {
           bound = omega (arith, one .bound, two .bound);
           stands = λ l.
-            let (place, rest) = two .stands (omega (arith, one .bound)) in
-            let (place₁, rest₁) = one .stands (omega (arith, two .bound)) in
-            (place ∙ place₁, λ p g u. either p (λ v. rest₁ p g v) (λ v. le-trans (omega (arith, two .bound)) (rest p v u)));
-          lower = λ l. split (st′ .smallest) (st .smallest) (λ s. later s h) (λ s. kept s (omega arith) k)
+              let (place, rest) = two .stands (omega (arith, one .bound)) in
+              let (place₁, rest₁) = one .stands (omega (arith, two .bound)) in
+              (place ∙ place₁, λ p g u. either p (λ v. rest₁ p g v) (λ v. le-trans (omega (arith, two .bound)) (rest p v u)));
+          lower = λ l. split (st′ .smallest) (st .smallest) (λ s. later s h) (λ s. kept s (omega arith) k);
         }
+
+  -- everything before the stretch is higher, everything behind it not lower
+  pub low-later : {a b c d : ℕ} {st : Scan} → a ≤ b → c ≤ d → Lowest X b c st → ((p : ℕ) → a ≤ p → p < b → st .smallest < X p)
+      → ((p : ℕ) → c ≤ p → p < d → st .smallest ≤ X p) → Lowest X a d st
+  low-later {a} {b} {c} {d} {st} h k low before after =
+      record {
+        from = omega (arith, low .from);
+        upto = omega (arith, low .upto);
+        here = low .here;
+        before = λ p g l. split p b (λ u. before p g u) (λ u. low .before p u l);
+        after = λ p g l. split p b (λ u. le-of-lt (before p g u)) (λ u. split p c (λ v. low .after p u v) (λ v. after p v l));
+      }
 
   pub low-join : {a b c : ℕ} {st st′ : Scan} → a ≤ b → b ≤ c → Lowest X a b st → Beats X b c (st .smallest) (st .place) st′ → Lowest X a c st′
   low-join {a} {b} {c} {st} {st′} h k low two =
       let one : Beats X a b (suc (st .smallest)) 0 st =
-          record { bound = omega arith; stands = λ l. absurd (omega arith); lower = λ l. low } in
+      record { bound = omega arith; stands = λ l. absurd (omega arith); lower = λ l. low } in
       beats-join one two h k .lower (omega (arith, two .bound))
 
 -- ---- a scan of parentheses
@@ -188,6 +202,6 @@ module _ (g : ℕ) (u : List Paren) (high : length u ≤ g) where
       let f : take (suc k) (drop p u) ≡ s ++ (q ∷ []) = take-suc (drop p u) k opening d ∙ ap (λ (r : Paren). s ++ (r ∷ [])) (getD-drop p u k opening) in
       let l : length s ≡ k = length-take-le k (drop p u) (omega arith) in
       let x : scanOf st p (take (suc k) (drop p u)) ≡ seen (scanOf st p s) (p + k) (excess g u (p + k)) =
-          ap (scanOf st p) f ∙ scan-append st p s (q ∷ []) ∙ rw l (step-seen (scanOf st p s) (p + k) (omega arith) (w .level-now)) in
+      ap (scanOf st p) f ∙ scan-append st p s (q ∷ []) ∙ rw l (step-seen (scanOf st p s) (p + k) (omega arith) (w .level-now)) in
       subst⁻¹ (Scanned st p (suc k)) x
       (record { level-now = rw (add-suc p k, ← (add-one (p + k))); beats = rw (add-suc p k) (beats-seen (excess g u) p (p + k) (st .smallest) (st .place) (scanOf st p s) (omega arith) (w .beats)) })

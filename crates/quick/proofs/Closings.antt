@@ -1,23 +1,23 @@
 -- From a closing on and up to a closing: what the code's steps come to, for any bytes, and what is right where the excess is the true one.
 -- Assumes nothing.
-use mathlib.Core.Path.{_≡_, refl, sym, ap, subst, subst⁻¹, _∙_}
-use Prim.Native.Nat.{ℕ, suc, min, _+_, _-_, _*_, _/_, _%_, _≤_, _<_}
-use native.Mathlib.Nat.{le-refl, le-trans}
+use mathlib.Core.Path.{_≡_, ap, subst⁻¹, _∙_}
+use Prim.Native.Nat.{ℕ, _+_, _-_, _*_, _/_, _%_, _≤_, _<_}
+use native.Mathlib.Nat.{le-trans}
 use native.Mathlib.Omega.{arith}
 use mathlib.Core.List.{List}
 use lib.ListN.{length, take, drop, getD, length-take, length-drop}
 use lib.Seq.{length-take-le, getD-take, getD-drop}
-use Rattle.rules.specs.Shape.{Paren, opening, closing}
+use Rattle.rules.specs.Shape.{Paren, opening}
 use Rattle.rules.specs.Bytes.{lowBits, allBits}
 use Rattle.rules.proofs.Bytes.{lowBits-length, allBits-length}
 use Rattle.scan.specs.declared.Scan.{Scan}
 use Rattle.scan.specs.Scan.{Ready, scanOf}
 use Rattle.scan.proofs.Laws.{ready-after, ready-fewer, scan-below}
 use Rattle.ask.specs.Byte.{begun, Begins}
-use Rattle.quick.specs.Lowest.{Lowest, Beats}
-use Rattle.quick.specs.Part.{height, level, endOf, Lent, Runs, Bounds, ClosingAt, Near, FromClosing, GoesOn}
+use Rattle.quick.specs.Lowest.{Lowest}
+use Rattle.quick.specs.Part.{height, level, endOf, Lent, Runs, ClosingAt, Near, FromClosing, GoesOn}
 use Rattle.quick.proofs.Beats.{beats-idle, beats-join, low-join}
-use Rattle.quick.proofs.Parts.{bits-byte, bits-some, bits-behind, bits-within, Reads, reads, ran, ran-through, from-closing}
+use Rattle.quick.proofs.Parts.{bits-byte, bits-some, bits-behind, bits-within, reads, ran, ran-through, from-closing}
 
 -- reading never raises the smallest
 pub runs-below : {st : Scan} {at : ℕ} {part : List ℕ} {stop : ℕ} {r : Scan} → Runs st at part stop r → r .smallest ≤ st .smallest
@@ -42,10 +42,10 @@ module _ (body : List ℕ) (lent : Lent body) where
         record {
           bound = runs-below runs;
           right = λ true bounds.
-            beats-join (height body)
-            (ran body lent st f w stop mid fits true runs (λ p g l. bounds p g (omega arith)))
-            (beats-idle (height body) (8 * f + 8 * w) b mid (λ p g l. le-trans low (bounds p (omega arith) l)))
-            (omega arith) h
+              beats-join (height body)
+              (ran body lent st f w stop mid fits true runs (λ p g l. bounds p g (omega arith)))
+              (beats-idle (height body) (8 * f + 8 * w) b mid (λ p g l. le-trans low (bounds p (omega arith) l)))
+              (omega arith) h;
         }
 
     -- it was read to its end, and then k parentheses of the next byte
@@ -55,11 +55,11 @@ module _ (body : List ℕ) (lent : Lent body) where
         record {
           bound = le-trans (rw is (scan-below mid (8 * (f + w)) (take k (lowBits 8 (getD body (f + w) 0))))) (runs-below runs);
           right = λ true bounds.
-            let all = ran-through body lent st f w stop mid fits true runs high in
-            let e : 8 * f + 8 * w ≡ 8 * (f + w) = omega arith in
-            let g : 8 * (f + w) + 0 ≡ 8 * (f + w) = omega arith in
-            let more = reads body lent mid (8 * (f + w)) k (omega arith) (all .level-now ∙ ap (level body) e) (is ∙ ap (scanOf mid (8 * (f + w))) (bits-some (f + w) body 0 k l (omega arith) ∙ ap (λ (p : ℕ). take k (drop p (allBits body))) g)) in
-            beats-join (height body) (rw e at (all .beats)) (more .beats) (omega arith) (omega arith)
+              let all = ran-through body lent st f w stop mid fits true runs high in
+              let e : 8 * f + 8 * w ≡ 8 * (f + w) = omega arith in
+              let g : 8 * (f + w) + 0 ≡ 8 * (f + w) = omega arith in
+              let more = reads body lent mid (8 * (f + w)) k (omega arith) (all .level-now ∙ ap (level body) e) (is ∙ ap (scanOf mid (8 * (f + w))) (bits-some (f + w) body 0 k l (omega arith) ∙ ap (λ (p : ℕ). take k (drop p (allBits body))) g)) in
+              beats-join (height body) (rw e at (all .beats)) (more .beats) (omega arith) (omega arith);
         }
 
     -- all of it
@@ -80,10 +80,10 @@ module _ (body : List ℕ) (lent : Lent body) where
         let f = lent .few in
         let h = at-x .within in
         let bits : getD (lowBits 8 (getD body (x / 8) 0)) (x % 8) opening ≡ getD (allBits body) x opening =
-            ap (λ (s : List Paren). getD s (x % 8) opening) (bits-byte (x / 8) body within)
-            ∙ getD-take 8 (drop (8 * (x / 8)) (allBits body)) (x % 8) opening (omega arith)
-            ∙ getD-drop (8 * (x / 8)) (allBits body) (x % 8) opening
-            ∙ ap (λ (p : ℕ). getD (allBits body) p opening) place in
+        ap (λ (s : List Paren). getD s (x % 8) opening) (bits-byte (x / 8) body within)
+        ∙ getD-take 8 (drop (8 * (x / 8)) (allBits body)) (x % 8) opening (omega arith)
+        ∙ getD-drop (8 * (x / 8)) (allBits body) (x % 8) opening
+        ∙ ap (λ (p : ℕ). getD (allBits body) p opening) place in
         let a = near .above in
         let b = near .below in
         record { closes = bits ∙ at-x .closes; room = omega arith; high = omega arith; near = omega arith }
@@ -110,7 +110,7 @@ module _ (body : List ℕ) (lent : Lent body) where
           let q = x % 8 in
           let end : x + 1 + (7 - q) ≡ 8 * (x / 8 + 1) = omega arith in
           let bits : here ≡ scanOf (begun e x) (x + 1) (take (7 - q) (drop (x + 1) (allBits body))) =
-              is ∙ rw place (ap (scanOf (begun e x) (x + 1)) (bits-behind (x / 8) body q h (omega arith) ∙ ap (λ (p : ℕ). take (7 - q) (drop (p + 1) (allBits body))) place)) in
+          is ∙ rw place (ap (scanOf (begun e x) (x + 1)) (bits-behind (x / 8) body q h (omega arith) ∙ ap (λ (p : ℕ). take (7 - q) (drop (p + 1) (allBits body))) place)) in
           rw end at (from-closing body lent x e (7 - q) (omega arith) true bits)
 
       -- what goes on from there
@@ -120,8 +120,8 @@ module _ (body : List ℕ) (lent : Lent body) where
           record {
             bound = omega (arith, on .bound, here-below);
             right = λ true bounds.
-              let (low, true′) = here-low true in
-              low-join (height body) (omega arith) h low (on .right true′ (λ p g l. bounds p (omega arith) l))
+                let (low, true′) = here-low true in
+                low-join (height body) (omega arith) h low (on .right true′ (λ p g l. bounds p (omega arith) l));
           }
 
     -- up to before bit k of its own byte
@@ -134,10 +134,10 @@ module _ (body : List ℕ) (lent : Lent body) where
         let n : y % 8 + 1 - (x % 8 + 1) ≡ y - x = omega arith in
         let end : x + 1 + (y - x) ≡ y + 1 = omega arith in
         let bits : r ≡ scanOf (begun e x) (x + 1) (take (y - x) (drop (x + 1) (allBits body))) =
-            is ∙ rw place (ap (scanOf (begun e x) (x + 1)) (bits-within (x / 8) body (x % 8) (y % 8 + 1) w (omega arith) (omega arith) ∙ rw (n, place))) in
+        is ∙ rw place (ap (scanOf (begun e x) (x + 1)) (bits-within (x / 8) body (x % 8) (y % 8 + 1) w (omega arith) (omega arith) ∙ rw (n, place))) in
         record {
           bound = let l : r .smallest ≤ e = rw is (scan-below (begun e (8 * (x / 8) + x % 8)) (8 * (x / 8) + x % 8 + 1) (drop (x % 8 + 1) (take (y % 8 + 1) (lowBits 8 (getD body (x / 8) 0))))) in omega arith;
-          right = λ true bounds. rw end at (from-closing body lent x e (y - x) (omega arith) true bits .0)
+          right = λ true bounds. rw end at (from-closing body lent x e (y - x) (omega arith) true bits .0);
         }
 
 -- ---- as the code has them

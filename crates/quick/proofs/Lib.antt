@@ -3,3 +3,5 @@ pub mod Parts
 pub mod Closings
 pub mod Ours
 pub mod Standing
+pub mod Finishing
+pub mod Middle

@@ -1,25 +1,24 @@
 -- A record and its own summary: what the summary's numbers say of the excesses, and which entry the lowest place names.
 -- Assumes nothing.
-use mathlib.Core.Path.{_≡_, refl, sym, ap, ap₂, subst, _∙_}
-use Prim.Native.Nat.{ℕ, suc, min, _+_, _-_, _*_, _/_, _≤_, _<_}
+use mathlib.Core.Path.{_≡_, refl, sym, ap, ap₂, _∙_}
+use Prim.Native.Nat.{ℕ, suc, min, _+_, _-_, _*_, _≤_, _<_}
 use native.Mathlib.Nat.{le-refl}
-use native.Mathlib.Numerals.{add-one}
 use native.Mathlib.Omega.{arith}
-use mathlib.Core.List.{List, _++_}
+use mathlib.Core.List.{List}
 use lib.ListN.{length, take, drop, getD, take-append-drop}
 use lib.Seq.{take-take, take-all}
 use Rattle.rules.specs.Column.{IsLeast, least}
 use Rattle.rules.specs.Shape.{Paren}
-use Rattle.rules.specs.Excess.{openings, closings, closingPlace, excess, excesses, entryBetween, Balanced}
-use Rattle.rules.specs.Bytes.{most, allBits}
-use Rattle.rules.specs.Summary.{slot, node, leaf, blocksFor}
+use Rattle.rules.specs.Excess.{openings, closings, closingPlace, excess, excesses, entryBetween}
+use Rattle.rules.specs.Bytes.{allBits}
+use Rattle.rules.specs.Summary.{node, leaf, blocksFor}
 use Rattle.rules.proofs.Bytes.{allBits-length}
 use Rattle.rules.proofs.Excess.{counts-length, excesses-at}
 use Rattle.rules.proofs.Least.{least-is, least-unique}
 use Rattle.rules.proofs.ClosingPlace.{closings-more, closing-within, closing-stands, closing-order}
 use Rattle.rules.proofs.Parts.{closing-first}
 use Rattle.rules.proofs.Counted.{excess-counts, least-closes, between-raised}
-use Rattle.rules.proofs.Summary.{filled-at, slot-leaf, slot-node, node-leaf, node-halves, leaf-least, leaf-stands, LeafAt}
+use Rattle.rules.proofs.Summary.{filled-at, slot-leaf, slot-node, node-halves, leaf-least, leaf-stands}
 use Rattle.tree.specs.Tree.{Halves}
 use Rattle.scan.specs.declared.Scan.{Scan}
 use Rattle.blocks.specs.Search.{Own}
@@ -104,7 +103,7 @@ module _ (body t : List ℕ) (n : ℕ) (ours : Ours body t n) where
   pub halves-own : Halves t
   halves-own =
       record {
-        node = λ v h l. node-own v h (omega arith) ∙ node-halves (parensIn body n) v h l ∙ ap₂ min (sym (node-own (2 * v) (omega arith) (omega arith))) (sym (node-own (2 * v + 1) (omega arith) (omega arith)))
+        node = λ v h l. node-own v h (omega arith) ∙ node-halves (parensIn body n) v h l ∙ ap₂ min (sym (node-own (2 * v) (omega arith) (omega arith))) (sym (node-own (2 * v + 1) (omega arith) (omega arith)));
       }
 
   -- ---- closings
@@ -147,7 +146,7 @@ module _ (body t : List ℕ) (n : ℕ) (ours : Ours body t n) where
           from = low .from;
           upto = omega arith;
           before = λ k g l. rw (here, at k (omega arith)) (low .before k g l);
-          after = λ k g l. rw (here, at k (omega arith)) (low .after k (omega (arith, low .from)) (omega arith))
+          after = λ k g l. rw (here, at k (omega arith)) (low .after k (omega (arith, low .from)) (omega arith));
         }
 
     found : entryBetween (parensIn body n) i j ≡ closings (take (st .place) (allBits body))
@@ -166,7 +165,7 @@ module _ (body t : List ℕ) (n : ℕ) (ours : Ours body t n) where
         let b = long-bits in
         let all : i < closings (allBits body) = omega (arith, closing-all) in
         let c : closings (take (suc p) (allBits body)) ≡ suc (closings (take p (allBits body))) =
-            least-closes ground (allBits body) i (closingIn body n j) p few-bits all (omega arith) (rw (closing-same i (omega arith)) is-least) in
+        least-closes ground (allBits body) i (closingIn body n j) p few-bits all (omega arith) (rw (closing-same i (omega arith)) is-least) in
         omega (arith, excess-counts ground (allBits body) p few-bits (omega arith), low .here, found)
       where
         closing-all : n ≤ closings (allBits body)
@@ -180,7 +179,7 @@ module _ (body t : List ℕ) (n : ℕ) (ours : Ours body t n) where
         let f = low .from in
         let a = closing-stands (parensIn body n) i (omega (arith, closings-n)) .before in
         let b = closing-stands (parensIn body n) j (omega (arith, closings-n)) .before in
-        let g = found in
-        ( omega (arith, closings-more (allBits body) (closingIn body n i) p f, ap closings (same-take (closingIn body n i) (omega arith)))
-        , omega (arith, closings-more (allBits body) p (closingIn body n j) (omega arith), ap closings (same-take (closingIn body n j) (omega arith)))
+        let g = found in (
+          omega (arith, closings-more (allBits body) (closingIn body n i) p f, ap closings (same-take (closingIn body n i) (omega arith))),
+          omega (arith, closings-more (allBits body) p (closingIn body n j) (omega arith), ap closings (same-take (closingIn body n j) (omega arith))),
         )

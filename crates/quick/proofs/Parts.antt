@@ -2,22 +2,22 @@
 -- Assumes nothing.
 use mathlib.Core.Path.{_≡_, refl, sym, ap, subst, subst⁻¹, _∙_}
 use mathlib.Core.Logic.{⊎-elim}
-use Prim.Native.Nat.{ℕ, zero, suc, _+_, _-_, _*_, _/_, _%_, _≤_, _<_}
-use native.Mathlib.Nat.{add-zero, le-refl, le-trans}
+use Prim.Native.Nat.{ℕ, zero, suc, _+_, _-_, _*_, _≤_, _<_}
+use native.Mathlib.Nat.{le-refl, le-trans}
 use native.Mathlib.Numerals.{add-one}
 use native.Mathlib.Omega.{arith}
 use mathlib.Core.List.{List, [], _∷_, _++_}
-use lib.ListN.{length, take, drop, getD, length-take, length-drop, take-append-drop}
-use lib.Seq.{take-at, drop-at, take-take, drop-drop, getD-drop, getD-take, length-take-le, take-add, drop-cons, take-all}
-use Rattle.rules.specs.Shape.{Paren, opening, closing}
+use lib.ListN.{length, take, drop, getD, length-drop, take-append-drop}
+use lib.Seq.{take-at, drop-at, take-take, drop-drop, length-take-le, drop-cons, take-all}
+use Rattle.rules.specs.Shape.{Paren}
 use Rattle.rules.specs.Excess.{excess}
 use Rattle.rules.specs.Bytes.{lowBits, allBits}
 use Rattle.rules.proofs.Bytes.{lowBits-length, allBits-length, allBits-append}
 use Rattle.scan.specs.declared.Scan.{Scan}
-use Rattle.scan.specs.Scan.{Ready, scanOf}
-use Rattle.ask.specs.Byte.{begun, Begins}
+use Rattle.scan.specs.Scan.{scanOf}
+use Rattle.ask.specs.Byte.{begun}
 use Rattle.quick.specs.Lowest.{Lowest, Beats}
-use Rattle.quick.specs.Part.{ground, height, level, Lent, Runs, Bounds, ClosingAt, Near}
+use Rattle.quick.specs.Part.{ground, height, level, Lent, Runs, Bounds}
 use Rattle.quick.proofs.Beats.{beats-idle, beats-join, low-join, Scanned, scanned}
 
 -- ---- bits of a part
@@ -124,7 +124,7 @@ module _ (body : List ℕ) (lent : Lent body) where
         upto = le-refl (suc x);
         here = h;
         before = λ p g l. absurd (omega arith);
-        after = λ p g l. let f : p ≡ x = omega arith in rw (f, h) (le-refl (height body x))
+        after = λ p g l. let f : p ≡ x = omega arith in rw (f, h) (le-refl (height body x));
       }
 
   -- and k parentheses behind it

@@ -2,7 +2,7 @@
 -- Assumes nothing.
 use mathlib.Core.Path.{_≡_, refl, sym, ap, ap₂, _∙_}
 use mathlib.Core.Logic.{_⊎_, inl, inr}
-use Prim.Native.Nat.{ℕ, zero, suc, min, _+_, _-_, _*_, _/_, _≤_, _<_}
+use Prim.Native.Nat.{ℕ, _+_, _-_, _*_, _/_, _≤_, _<_}
 use native.Mathlib.Nat.{le-refl, eq-zero-or-pos}
 use native.Mathlib.Omega.{arith}
 use mathlib.Core.Bool.{Bool, true, false, cond}
@@ -12,18 +12,17 @@ use borrow.Author.Tests.{lt-ltb, ltb-true, ltb-false}
 use lib.Dec.{ltb}
 use lib.ListN.{length, take, drop, getD, length-drop, length-take}
 use lib.Seq.{take-all, take-take, getD-take, getD-drop}
-use Rattle.rules.specs.Shape.{Paren, opening, closing}
-use Rattle.rules.specs.Excess.{closings, closingPlace, excess, Balanced}
+use Rattle.rules.specs.Shape.{opening, closing}
+use Rattle.rules.specs.Excess.{closings, closingPlace}
 use Rattle.rules.specs.Bytes.{allBits}
-use Rattle.rules.specs.Summary.{blocksFor}
 use Rattle.rules.proofs.Bytes.{allBits-length}
 use Rattle.rules.proofs.ClosingPlace.{closings-more, closing-within}
 use Rattle.rules.proofs.Parts.{closing-closes}
 use Rattle.rules.proofs.Blocks.{closing-from, in-block, excess-closings}
-use Rattle.blocks.specs.Search.{Own, Before}
+use Rattle.blocks.specs.Search.{Before}
 use Rattle.blocks.specs.Select.{selectOf}
-use Rattle.quick.specs.Part.{endOf, ClosingAt, Lent}
-use Rattle.quick.specs.Quick.{parensIn, Ours, closingIn, Stands, Block}
+use Rattle.quick.specs.Part.{endOf, ClosingAt}
+use Rattle.quick.specs.Quick.{parensIn, Ours, closingIn, Block}
 use Rattle.quick.proofs.Parts.{bits-take, bits-drop}
 use Rattle.quick.proofs.Ours.{closings-n, closing-same, closing-low, long-bits}
 
@@ -50,6 +49,7 @@ module _ (body : List ℕ) (k : ℕ) (block : Block body k) where
           by : (x : Bool) → ltb b a ≡ x → (a ≤ b) ⊎ (b < a)
           by true e = inr (ltb-true b a e)
           by false e = inl (ltb-false b a e)
+
       same : (w : ℕ) → length (drop (256 * k) (allBits body)) ≡ 8 * length body - 256 * k → ((32 * k + 32 ≤ length body) ⊎ (length body < 32 * k + 32))
           → take (8 * (endOf body k - 32 * k)) (drop (256 * k) (allBits body)) ≡ take 256 (drop (256 * k) (allBits body))
       same w d (inl h) = let e : 8 * (endOf body k - 32 * k) ≡ 256 = omega arith in rw e
@@ -78,7 +78,7 @@ module _ (body : List ℕ) (k : ℕ) (block : Block body k) where
           let s = block .starts in
           let c : getD bits x opening ≡ closing = ap (λ (p : ℕ). getD bits p opening) is ∙ closing-closes bits m (ltb-true m (closings bits) f) in
           let d : getD bits x opening ≡ getD (allBits body) (256 * k + x) opening =
-              getD-take 256 (drop (256 * k) (allBits body)) x opening (omega arith) ∙ getD-drop (256 * k) (allBits body) x opening in
+          getD-take 256 (drop (256 * k) (allBits body)) x opening (omega arith) ∙ getD-drop (256 * k) (allBits body) x opening in
           record { from = omega arith; upto = omega arith; within = omega arith; closes = sym d ∙ c }
       by false f g =
           let is : x ≡ length (take 256 (drop (256 * k) (allBits body))) = g ∙ rw f in
@@ -97,6 +97,7 @@ module _ (body t : List ℕ) (n k i : ℕ) (ours : Ours body t n) (among : i < n
     where
       first : k ≡ 0 → e + 2 * closings (take (256 * k) (parensIn body n)) ≡ 256 * k
       first z = rw z (omega (arith, before .first z))
+
       later : 0 < k → e + 2 * closings (take (256 * k) (parensIn body n)) ≡ 256 * k
       later p =
           let l = ours .own .long in
@@ -122,6 +123,6 @@ module _ (body t : List ℕ) (n k i : ℕ) (ours : Ours body t n) (among : i < n
       let at : closingPlace u i ≡ closingIn body n i = closing-same body t n ours i among in
       let p = in-block u i k (omega arith) (ap (_/ 256) at ∙ there) in
       let g : x ≡ closingPlace bits (i - closings (take (256 * k) u)) =
-          f ∙ ap₂ selectOf (block-bits body k block) m ∙ rw (lt-ltb (i - closings (take (256 * k) u)) (closings bits) (p .among)) in
+      f ∙ ap₂ selectOf (block-bits body k block) m ∙ rw (lt-ltb (i - closings (take (256 * k) u)) (closings bits) (p .among)) in
       let within = closing-within bits (i - closings (take (256 * k) u)) (p .among) in
       (omega (arith, bits-length body k block), ap (256 * k +_) g ∙ sym (p .stands) ∙ at)

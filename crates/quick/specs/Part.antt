@@ -1,14 +1,14 @@
 -- Parts of a record's body, for any bytes whatever: what a scan of a part finds is said by the excesses alone.
 use mathlib.Core.Path.{_≡_}
 use mathlib.Core.Logic.{_⊎_}
-use Prim.Native.Nat.{ℕ, min, _+_, _-_, _*_, _/_, _≤_, _<_}
+use Prim.Native.Nat.{ℕ, min, _+_, _-_, _*_, _≤_, _<_}
 use mathlib.Core.List.{List}
 use lib.ListN.{length, take, getD}
 use Rattle.rules.specs.Shape.{opening, closing}
 use Rattle.rules.specs.Excess.{openings, closings, excess}
 use Rattle.rules.specs.Bytes.{allBits}
 use Rattle.scan.specs.declared.Scan.{Scan}
-use Rattle.scan.specs.Scan.{Ready, scanOf}
+use Rattle.scan.specs.Scan.{scanOf}
 use Rattle.quick.specs.Lowest.{Lowest, Beats}
 
 -- excesses are counted from here: above twice the number of any entry

@@ -63,7 +63,15 @@ pub fn upto(st: Scan, t: &[i8; 768], body: &[u8], k: usize, y: usize, stop: usiz
 }
 
 // From the closing at place x, after which the excess is e, up to the closing at place y of the same block.
-pub fn within(t: &[i8; 768], body: &[u8], k: usize, x: usize, e: usize, y: usize, stop: usize) -> Scan
+pub fn within(
+    t: &[i8; 768],
+    body: &[u8],
+    k: usize,
+    x: usize,
+    e: usize,
+    y: usize,
+    stop: usize,
+) -> Scan
     requires { ⌜ (now t ≡ rows) × Lent (now body) × (k ≤ 255) × ClosingAt (now body) k x × Near e × ClosingAt (now body) k y × (x ≤ y) ⌝ }
     ensures { λ r. ⌜ FromClosing (now (body .entry)) x (y + 1) e stop r ⌝ }
 {

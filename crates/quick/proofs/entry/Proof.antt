@@ -7,17 +7,20 @@ use borrow.Author.Needs.{needs}
 use Rattle.quick.proofs.entry.Statement.{statement}
 use Rattle.quick.proofs.entry.Tie as tie
 
+returns : tie.Need-returns
+returns c = record { allowed = refl; right = λ q p h l u. absurd (omega arith) }
+
 add-up : tie.Need-add-up
 add-up c = search needs
 
 add-up-2 : tie.Need-add-up-2
 add-up-2 c = search needs
 
-add-if1 : tie.Need-add-if1
-add-if1 c = search needs
+add-if2 : tie.Need-add-if2
+add-if2 c = search needs
 
-returns : tie.Need-returns
-returns c = record { allowed = refl; right = λ q h l u. absurd (omega arith) }
+returns-2 : tie.Need-returns-2
+returns-2 c = record { allowed = refl; right = λ q p h l u. absurd (omega arith) }
 
 sub-q : tie.Need-sub-q
 sub-q c = search needs
@@ -25,16 +28,26 @@ sub-q c = search needs
 sub-q-2 : tie.Need-sub-q-2
 sub-q-2 c = search needs
 
-returns-2 : tie.Need-returns-2
-returns-2 c = record { allowed = refl; right = λ q h l u. absurd (omega arith) }
-
 returns-3 : tie.Need-returns-3
-returns-3 c = record { allowed = refl; right = λ q h l u. absurd (omega arith) }
+returns-3 c = record { allowed = refl; right = λ q p h l u. absurd (omega arith) }
 
 returns-4 : tie.Need-returns-4
-returns-4 c = record { allowed = (omega arith, omega arith); right = λ q h l u. ap answer (omega arith) }
+returns-4 c = record { allowed = refl; right = λ q p h l u. absurd (omega arith) }
+
+returns-5 : tie.Need-returns-5
+returns-5 c = record { allowed = (omega arith, omega arith); right = λ q p h l u. ap answer (omega arith) }
 
 pub entry-spec : {M : Type 1} → statement M
 entry-spec =
     tie.close
-    (tie.spec add-up add-up-2 add-if1 returns sub-q sub-q-2 returns-2 returns-3 returns-4)
+    (tie.spec
+    returns
+    add-up
+    add-up-2
+    add-if2
+    returns-2
+    sub-q
+    sub-q-2
+    returns-3
+    returns-4
+    returns-5)

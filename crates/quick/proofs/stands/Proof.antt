@@ -80,7 +80,7 @@ returns-2 c =
     let e = c .before .before .before .end-of .ensures in
     record {
       there = inl refl;
-      right = λ n ours among at. absurd (omega (arith, right-there (a .body .now) (a .t .now) n (a .k) (a .i) ours among at (c .before .before .before .before .before .before2 .result) (c .before .before .before .before .before .before2 .ensures) (start .pre .1) (c .before .select .result) (chosen (a .body .now) (a .k) _ _ _ e (c .before .select .ensures)) .0))
+      right = λ n ours among at. absurd (omega (arith, right-there (a .body .now) (a .t .now) n (a .k) (a .i) ours among at (c .before .before .before .before .before .before2 .result) (c .before .before .before .before .before .before2 .ensures) (start .pre .1) (c .before .select .result) (chosen (a .body .now) (a .k) _ _ _ e (c .before .select .ensures)) .0));
     }
 
 mul-result : tie.Need-mul-result
@@ -97,7 +97,7 @@ returns-3 c =
     let x = chosen (a .body .now) (a .k) _ _ _ e (c .before .select .ensures) in
     record {
       there = inr (selected (a .body .now) (a .k) (start .pre .1) _ (c .before .select .result) x (omega arith));
-      right = λ n ours among at. right-there (a .body .now) (a .t .now) n (a .k) (a .i) ours among at (c .before .before .before .before .before .before2 .result) (c .before .before .before .before .before .before2 .ensures) (start .pre .1) (c .before .select .result) x .1
+      right = λ n ours among at. right-there (a .body .now) (a .t .now) n (a .k) (a .i) ours among at (c .before .before .before .before .before .before2 .result) (c .before .before .before .before .before .before2 .ensures) (start .pre .1) (c .before .select .result) x .1;
     }
 
 pub stands-spec : {M : Type 1} → statement M

@@ -1,0 +1,13 @@
+-- A window that is made keeps what the rule says, no more and no less.
+use mathlib.Core.Path.{_≡_}
+use Prim.Native.Nat.{ℕ}
+use mathlib.Core.List.{List}
+use denote.Ref.{now}
+use Rattle.rules.specs.Window.{keptBytes, keptFirst, keptLast}
+use Rattle.window.specs.declared.Window.{Window}
+
+-- w is the window that is made on the bytes r with first f and last l
+pub record Made (r : List ℕ) (f l : ℕ) (w : Window) : Type 0 where
+  pub bytes : now (w .bytes) ≡ keptBytes r f l
+  pub first : w .first ≡ keptFirst r f l
+  pub last : w .last ≡ keptLast r f l

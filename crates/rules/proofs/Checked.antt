@@ -17,16 +17,16 @@ use Rattle.rules.proofs.Bytes.{allBits-length}
 
 -- ---- an answer behind a test
 
-not-refused : (b : Bool) (k : ℕ) {n : ℕ} {o : Outcome} → cond b (refusal k) o ≡ answer n → (b ≡ false) × (o ≡ answer n)
+pub not-refused : (b : Bool) (k : ℕ) {n : ℕ} {o : Outcome} → cond b (refusal k) o ≡ answer n → (b ≡ false) × (o ≡ answer n)
 not-refused true k e = absurd (let z : _≡_ {A = ℕ} 0 1 = cc in omega arith)
 not-refused false k e = (refl, e)
 
-passed : (b : Bool) (k : ℕ) {n : ℕ} {o : Outcome} → cond b o (refusal k) ≡ answer n → (b ≡ true) × (o ≡ answer n)
+pub passed : (b : Bool) (k : ℕ) {n : ℕ} {o : Outcome} → cond b o (refusal k) ≡ answer n → (b ≡ true) × (o ≡ answer n)
 passed true k e = (refl, e)
 passed false k e = absurd (let z : _≡_ {A = ℕ} 0 1 = cc in omega arith)
 
 -- an answer behind checks that say a number themselves
-went-on : (o : Outcome) {n : ℕ} {next : ℕ → Outcome} → unlessRefused o next ≡ answer n → (m : ℕ) × (o ≡ answer m) × (next m ≡ answer n)
+pub went-on : (o : Outcome) {n : ℕ} {next : ℕ → Outcome} → unlessRefused o next ≡ answer n → (m : ℕ) × (o ≡ answer m) × (next m ≡ answer n)
 went-on (answer m) e = (m, refl, e)
 went-on (refusal k) e = absurd (let z : _≡_ {A = ℕ} 0 1 = cc in omega arith)
 

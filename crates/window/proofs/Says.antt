@@ -6,7 +6,9 @@ use mathlib.Core.List.{List}
 use borrow.Author.Tests.{lt-ltb, le-ltb}
 use Rattle.rules.specs.Refusal.{answer, refusal}
 use Rattle.rules.specs.Order.{checkSays, askSays}
-use Rattle.rules.specs.Window.{windowSays, windowAskSays}
+use Rattle.rules.specs.Window.{windowSays, windowAskSays, throughSays}
+use Rattle.window.specs.declared.Window.{Window}
+use Rattle.window.specs.Made.{Made, inWindow}
 
 pub window-refused : (r : List ℕ) (f l : ℕ) {k : ℕ} → checkSays r ≡ refusal k → windowSays r f l ≡ refusal k
 unfolding windowSays
@@ -41,3 +43,8 @@ module _ (b : List ℕ) (f l i j : ℕ) {p : ℕ} (e : askSays b i j ≡ answer 
   pub in-inside : f ≤ i → j ≤ l → windowAskSays b f l i j ≡ answer p
   unfolding windowAskSays
   in-inside h g = rw (e, le-ltb i f h, le-ltb l j g)
+
+-- an ask in a window that was made
+pub made-says : {r : List ℕ} {f l : ℕ} {w : Window} (i j : ℕ) → Made r f l w → inWindow w i j ≡ throughSays r f l i j
+unfolding throughSays
+made-says i j e = rw (e .bytes, e .first, e .last)

@@ -5,7 +5,7 @@ use answers::Refusal;
 ghost use mathlib.Core.Path.{_≡_};
 ghost use Rattle.rules.specs.Window.{windowSays, bytesBy, numberBy, windowAskSays, throughSays};
 ghost use Rattle.answers.specs.Said.{said};
-ghost use Rattle.window.specs.Made.{Made};
+ghost use Rattle.window.specs.Made.{Made, inWindow};
 
 pub struct Window<'a> {
     pub bytes: &'a [u8],
@@ -92,7 +92,7 @@ fn ask_from(bytes: &[u8], first: usize, last: usize, i: usize, j: usize) -> Answ
 // The leftmost smallest entry from i to j, both counted in, as the plain ask gives it, where both lie in
 // the window; else 8. It reads the record twice at most.
 pub fn ask_in<'a>(w: Window<'a>, i: usize, j: usize) -> Answer
-    ensures { λ r. ⌜ said r ≡ windowAskSays (now (w .entry .bytes)) (w .entry .first) (w .entry .last) i j ⌝ }
+    ensures { λ r. ⌜ said r ≡ inWindow (w .entry) i j ⌝ }
 {
     ask_from(w.bytes, w.first, w.last, i, j)
 }

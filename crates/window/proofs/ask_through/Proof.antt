@@ -38,14 +38,14 @@ use denote.Triple.Table.{entered, cited}
 use denote.Triple.Walked.{says, Stays, stay-none, stay-none-slice, walkOf, goes-none, goes-none-slice, Walks, ends-at, walked, walk-meets}
 use denote.Exit.{yes}
 use denote.Triple.Clauses.{ensured, lasts}
-use Rattle.rules.specs.Refusal.{Outcome}
-use Rattle.rules.specs.Window.{windowAskSays, throughSays}
+use Rattle.rules.specs.Window.{throughSays}
 use Rattle.answers.specs.Said.{said}
 use Rattle.answers.specs.declared.Answer.{Answer}
 use Rattle.answers.proofs.Answer as S
 use Rattle.answers.proofs.Answer.Laws as S′
 use Rattle.window.specs.declared.Window.{Window}
-use Rattle.window.specs.Made.{Made}
+use Rattle.window.specs.Made.{Made, inWindow}
+use Rattle.window.proofs.Says.{made-says}
 use Rattle.window.proofs.Window as T
 use Rattle.window.proofs.Window.Laws as T′
 use Rattle.window.proofs.make as make
@@ -67,14 +67,6 @@ B κs = T.the-row (namedLft 1 0 tt κs)
 
 abbrev stayed : Stays (ask-through.ended .signature .params) (ask-through.ended .kept)
 stayed = (stay-none-slice (0 ∷ []) tt (plain (λ _. u8)) yes, (stay-none (λ _. usize) yes, (stay-none (λ _. usize) yes, (stay-none (λ _. usize) yes, (stay-none (λ _. usize) yes, tt)))))
-
--- an ask in a window says what its window says
-abbrev inWindow : Window → ℕ → ℕ → Outcome
-inWindow w i j = windowAskSays (now (w .bytes)) (w .first) (w .last) i j
-
-through : (r : List ℕ) (f l : ℕ) (w : Window) (i j : ℕ) → Made r f l w → inWindow w i j ≡ throughSays r f l i j
-unfolding throughSays
-through r f l w i j e = rw (e .bytes, e .first, e .last)
 
 module _ {M : Type 1} (𝓤 : URA M) (H : Heap 𝓤) (A : Atoms 𝓤) (mem : Memory → SProp 𝓤) (run : Routine → Fun 𝓤) where
   -- the contracts that the proof cites
@@ -182,7 +174,7 @@ module _ {M : Type 1} (𝓤 : URA M) (H : Heap 𝓤) (A : Atoms 𝓤) (W : Given
         land ! (from ! (stop !)) (init ! 15 refl (EL.lawful S.the-type S′.the-laws 𝓤 H A W tt .typed t _ is′ .0)) $
         returns ! (look ! 15 refl) $ forget ! 3 refl $ forget ! 5 refl $ forget ! 7 refl $ forget ! 9 refl $ forget ! 11 refl $ forget ! 13 refl $ forget ! 15 refl $
         move ! (15 ∷ 16 ∷ []) $ free1 ! $ move ! (13 ∷ 14 ∷ []) $ free1 ! $ move ! (11 ∷ 12 ∷ []) $ free1 ! $ move ! (9 ∷ 10 ∷ []) $ free1 ! $ move ! (7 ∷ 8 ∷ []) $ free1 ! $ move ! (5 ∷ 6 ∷ []) $ free1 ! $ move ! (3 ∷ 4 ∷ []) $ free1 ! $ free0 ! $
-        by ! (exits t u′ (e′ ∙ through (now s) f l w i j e)))))))))))))))))
+        by ! (exits t u′ (e′ ∙ made-says i j e)))))))))))))))))
 
 module _ {M : Type 1} (𝓤 : URA M) (H : Heap 𝓤) (A : Atoms 𝓤) (W : Given 𝓤 H A) (mem : Memory → SProp 𝓤) (run : Routine → Fun 𝓤) where
   ask-through-walks : (C : Calls 𝓤 H) (Λ : Loops 𝓤 H) → FmC 𝓤 H (W .laws) C → Triple 𝓤 (C #window·make) (Make 𝓤 H A mem run) → Triple 𝓤 (C #window·ask-in) (AskIn 𝓤 H A mem run)

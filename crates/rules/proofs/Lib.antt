@@ -13,3 +13,4 @@ pub mod Every
 pub mod Checked
 pub mod Record
 pub mod Table
+pub mod Window

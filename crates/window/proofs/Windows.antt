@@ -13,16 +13,18 @@ use Rattle.rules.specs.StandIn.{standIn}
 use Rattle.rules.specs.Bytes.{parens}
 use Rattle.rules.specs.Refusal.{Outcome, answer, refusal, unlessRefused}
 use Rattle.rules.specs.Order.{frameSays, checkSays, askSays}
-use Rattle.rules.specs.Window.{windowSays, keptBytes, keptFirst, keptLast, windowAskSays, throughSays}
+use Rattle.rules.specs.Window.{windowSays, windowAskSays, throughSays}
 use Rattle.rules.proofs.Excess.{counts-length}
 use Rattle.rules.proofs.Least.{least-is}
 use Rattle.rules.proofs.Between.{between-stand-in}
 use Rattle.rules.proofs.Checked.{not-refused, passed, went-on, says-checked, parens-length}
+use Rattle.rules.proofs.Window.{stands-keeps, refused-keeps, in-refused, in-inside}
 use Rattle.answers.specs.declared.Answer.{Answer}
 use Rattle.answers.specs.Said.{said}
 use Rattle.answers.proofs.Said.{said-once}
+use Rattle.window.specs.declared.Window.{Window}
+use Rattle.window.specs.Made.{Made, inWindow}
 use Rattle.window.specs.Windows.{Standing, Windows, Once}
-use Rattle.window.proofs.Says.{in-refused, in-inside, made-says}
 
 -- ---- the plain ask
 
@@ -76,8 +78,8 @@ plain-inside b f l i j h g = by (askSays b i j) refl
 module _ (r : List ℕ) (f l n : ℕ) (e : windowSays r f l ≡ answer n) where
   -- the bytes and the numbers as they were passed
   whole : (i j : ℕ) → throughSays r f l i j ≡ windowAskSays r f l i j
-  unfolding throughSays keptBytes keptFirst keptLast
-  whole i j = rw e
+  unfolding throughSays
+  whole i j = let (b, x, y) = stands-keeps r f l e in rw (b, x, y)
 
   stands : Standing r f l n
   unfolding windowAskSays askSays
@@ -97,8 +99,8 @@ module _ (r : List ℕ) (f l n : ℕ) (e : windowSays r f l ≡ answer n) where
 -- ---- any window
 
 refused-five : (r : List ℕ) (f l k i j : ℕ) → windowSays r f l ≡ refusal k → throughSays r f l i j ≡ refusal 5
-unfolding throughSays keptBytes keptFirst keptLast windowAskSays askSays checkSays frameSays
-refused-five r f l k i j e = rw e
+unfolding throughSays windowAskSays askSays checkSays frameSays
+refused-five r f l k i j e = let (b, x, y) = refused-keeps r f l e in rw (b, x, y)
 
 places-within : (b : List ℕ) (f l i j p : ℕ) → windowAskSays b f l i j ≡ answer p → (f ≤ i) × (i ≤ p) × (p ≤ j) × (j ≤ l)
 unfolding windowAskSays
@@ -110,12 +112,18 @@ places-within b f l i j p e =
     let d = asked-within b i j q says in
     (ltb-false i f (a .0), omega arith, omega arith, ltb-false l j (c .0))
 
+-- an ask in a window that was made
+pub made-says : {r : List ℕ} {f l : ℕ} {w : Window} (i j : ℕ) → Made r f l w → inWindow w i j ≡ throughSays r f l i j
+unfolding throughSays
+made-says i j m = rw (m .bytes, m .first, m .last)
+
 pub windows : Windows
-unfolding keptBytes keptFirst keptLast
 windows =
     record {
-      kept = λ r f l n w m e. (m .bytes ∙ rw e, m .first ∙ rw e, m .last ∙ rw e);
-      kept-none = λ r f l k w m e. (m .bytes ∙ rw e, m .first ∙ rw e, m .last ∙ rw e);
+      kept = λ r f l n w m e.
+          let (b, x, y) = stands-keeps r f l e in (m .bytes ∙ b, m .first ∙ x, m .last ∙ y);
+      kept-none = λ r f l k w m e.
+          let (b, x, y) = refused-keeps r f l e in (m .bytes ∙ b, m .first ∙ x, m .last ∙ y);
       made = λ r f l i j w m. made-says i j m;
       standing = stands;
       refused = refused-five;

@@ -3,8 +3,8 @@
 use mathlib.Core.Path.{_≡_, ap, sym, _∙_}
 use Rattle.rules.specs.Refusal.{answer}
 use Rattle.rules.specs.Order.{askSays}
+use Rattle.rules.proofs.Window.{in-refused, in-below, in-above, in-inside}
 use Rattle.answers.specs.Said.{said}
-use Rattle.window.proofs.Says.{in-refused, in-below, in-above, in-inside}
 use borrow.Author.Needs.{needs}
 use Rattle.window.proofs.ask_from.Statement.{statement}
 use Rattle.window.proofs.ask_from.Tie as tie

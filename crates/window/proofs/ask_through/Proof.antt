@@ -45,7 +45,7 @@ use Rattle.answers.proofs.Answer as S
 use Rattle.answers.proofs.Answer.Laws as S′
 use Rattle.window.specs.declared.Window.{Window}
 use Rattle.window.specs.Made.{Made, inWindow}
-use Rattle.window.proofs.Says.{made-says}
+use Rattle.window.proofs.Windows.{made-says}
 use Rattle.window.proofs.Window as T
 use Rattle.window.proofs.Window.Laws as T′
 use Rattle.window.proofs.make as make

@@ -3,8 +3,8 @@
 use mathlib.Core.Path.{_≡_, ap, sym, _∙_}
 use Rattle.rules.specs.Refusal.{answer}
 use Rattle.rules.specs.Order.{checkSays}
+use Rattle.rules.proofs.Window.{window-refused, window-crossed, window-past, window-stands}
 use Rattle.answers.specs.Said.{said}
-use Rattle.window.proofs.Says.{window-refused, window-crossed, window-past, window-stands}
 use borrow.Author.Needs.{needs}
 use Rattle.window.proofs.refusal_of.Statement.{statement}
 use Rattle.window.proofs.refusal_of.Tie as tie

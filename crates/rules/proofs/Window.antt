@@ -2,13 +2,11 @@
 -- Assumes nothing.
 use mathlib.Core.Path.{_≡_}
 use Prim.Native.Nat.{ℕ, _≤_, _<_}
-use mathlib.Core.List.{List}
+use mathlib.Core.List.{List, []}
 use borrow.Author.Tests.{lt-ltb, le-ltb}
 use Rattle.rules.specs.Refusal.{answer, refusal}
 use Rattle.rules.specs.Order.{checkSays, askSays}
-use Rattle.rules.specs.Window.{windowSays, windowAskSays, throughSays}
-use Rattle.window.specs.declared.Window.{Window}
-use Rattle.window.specs.Made.{Made, inWindow}
+use Rattle.rules.specs.Window.{windowSays, keptBytes, keptFirst, keptLast, windowAskSays}
 
 pub window-refused : (r : List ℕ) (f l : ℕ) {k : ℕ} → checkSays r ≡ refusal k → windowSays r f l ≡ refusal k
 unfolding windowSays
@@ -27,6 +25,17 @@ module _ (r : List ℕ) (f l : ℕ) {n : ℕ} (e : checkSays r ≡ answer n) whe
   unfolding windowSays
   window-stands h g = rw (e, le-ltb l f h, lt-ltb l n g)
 
+-- what is kept: all as it was passed, or nothing
+pub stands-keeps : (r : List ℕ) (f l : ℕ) {n : ℕ} → windowSays r f l ≡ answer n → (keptBytes r f l ≡ r) × (keptFirst r f l ≡ f) × (keptLast r f l ≡ l)
+unfolding keptBytes keptFirst keptLast
+stands-keeps r f l e = (rw e, rw e, rw e)
+
+pub refused-keeps : (r : List ℕ) (f l : ℕ) {k : ℕ} → windowSays r f l ≡ refusal k → (keptBytes r f l ≡ []) × (keptFirst r f l ≡ 0) × (keptLast r f l ≡ 0)
+unfolding keptBytes keptFirst keptLast
+refused-keeps r f l e = (rw e, rw e, rw e)
+
+-- ---- an ask in it
+
 pub in-refused : (b : List ℕ) (f l i j : ℕ) {k : ℕ} → askSays b i j ≡ refusal k → windowAskSays b f l i j ≡ refusal k
 unfolding windowAskSays
 in-refused b f l i j e = rw e
@@ -43,8 +52,3 @@ module _ (b : List ℕ) (f l i j : ℕ) {p : ℕ} (e : askSays b i j ≡ answer 
   pub in-inside : f ≤ i → j ≤ l → windowAskSays b f l i j ≡ answer p
   unfolding windowAskSays
   in-inside h g = rw (e, le-ltb i f h, le-ltb l j g)
-
--- an ask in a window that was made
-pub made-says : {r : List ℕ} {f l : ℕ} {w : Window} (i j : ℕ) → Made r f l w → inWindow w i j ≡ throughSays r f l i j
-unfolding throughSays
-made-says i j e = rw (e .bytes, e .first, e .last)

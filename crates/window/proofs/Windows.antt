@@ -100,7 +100,7 @@ module _ (r : List ℕ) (f l n : ℕ) (e : windowSays r f l ≡ answer n) where
 
 refused-five : (r : List ℕ) (f l k i j : ℕ) → windowSays r f l ≡ refusal k → throughSays r f l i j ≡ refusal 5
 unfolding throughSays windowAskSays askSays checkSays frameSays
-refused-five r f l k i j e = let (b, x, y) = refused-keeps r f l e in rw (b, x, y)
+refused-five r f l k i j e = rw (refused-keeps r f l e .0)
 
 places-within : (b : List ℕ) (f l i j p : ℕ) → windowAskSays b f l i j ≡ answer p → (f ≤ i) × (i ≤ p) × (p ≤ j) × (j ≤ l)
 unfolding windowAskSays

@@ -1,14 +1,14 @@
 -- What is read in place of the parentheses that are not meant leaves no mark: closings before the first one, openings behind the last.
 -- Assumes nothing.
-use mathlib.Core.Path.{_≡_, refl, ap, _∙_}
+use mathlib.Core.Path.{_≡_, ap, _∙_}
 use Prim.Native.Nat.{ℕ, zero, suc, pred, _+_, _-_, _≤_, _<_}
 use native.Mathlib.Nat.{add-zero, le-refl}
 use native.Mathlib.Numerals.{add-one}
 use native.Mathlib.Decide.{decLt}
 use native.Mathlib.Omega.{arith}
 use mathlib.Core.Bool.{Bool, true, false, cond}
-use mathlib.Core.List.{List, [], _∷_, _++_}
-use borrow.Author.Tests.{lt-ltb, ltb-false}
+use mathlib.Core.List.{List, _∷_, _++_}
+use borrow.Author.Tests.{lt-ltb}
 use lib.Dec.{ltb}
 use lib.ListN.{length, take, drop, getD, replicate, List·getD-append, List·getD-eq-default}
 use lib.Seq.{drop-cons, drop-append-le, length-take-le, getD-take}
@@ -17,8 +17,8 @@ use Rattle.rules.specs.Bytes.{lowBits}
 use Rattle.rules.proofs.Bytes.{lowBits-length}
 use Rattle.scan.specs.declared.Scan.{Scan}
 use Rattle.scan.specs.Scan.{seen, stepOf, scanOf}
-use Rattle.scan.proofs.Laws.{scan-append, scan-least, scan-openings}
-use Rattle.ask.specs.Byte.{begun, Begins}
+use Rattle.scan.proofs.Laws.{scan-append, scan-least, some-least, scan-openings}
+use Rattle.ask.specs.Byte.{begun, shorter, Begins}
 
 -- ---- closings before a closing
 
@@ -28,7 +28,7 @@ above true e a m h l = h
 above false e a m h l = l
 
 -- x closings and one more, after which the excess is e: the last is the leftmost smallest, whatever was seen before
-pub scan-closings : (e m q p x : ℕ) (s : List Paren) → e < m
+scan-closings : (e m q p x : ℕ) (s : List Paren) → e < m
     → scanOf (record { excess = e + x + 1; smallest = m; place = q }) p (replicate x closing ++ closing ∷ s) ≡ scanOf (begun e (p + x)) (p + x + 1) s
 unfolding scanOf stepOf
 scan-closings e m q p zero s h =
@@ -40,31 +40,20 @@ scan-closings e m q p (suc x) s h =
     ap (λ (st : Scan). scanOf st (suc p) (replicate x closing ++ closing ∷ s)) step
     ∙ rw (← g) (scan-closings e (cond t (e + x + 1) m) (cond t p q) (suc p) x s (above t e (e + x + 1) m (omega arith) h))
   where
-    step : stepOf (record { excess = e + suc x + 1; smallest = m; place = q }) p closing ≡ seen (record { excess = e + suc x + 1; smallest = m; place = q }) p (e + x + 1)
+    st : Scan
+    st = record { excess = e + suc x + 1; smallest = m; place = q }
+
+    step : stepOf st p closing ≡ seen st p (e + x + 1)
     step = let f : pred (e + suc x + 1) ≡ e + x + 1 = omega arith in rw f
 
 -- ---- openings behind
 
--- after any parenthesis the smallest is not above the excess
-seen-least : (st : Scan) (p e : ℕ) → seen st p e .smallest ≤ e
-seen-least st p e = by (ltb e (st .smallest)) refl
-  where
-    by : (t : Bool) → ltb e (st .smallest) ≡ t → cond (ltb e (st .smallest)) e (st .smallest) ≤ e
-    by true h = rw h (le-refl _)
-    by false h = rw h (ltb-false e (st .smallest) h)
-
-pub some-least : (st : Scan) (p : ℕ) (s : List Paren) → 0 < length s → scanOf st p s .smallest ≤ scanOf st p s .excess
-unfolding scanOf stepOf
-some-least st p [] h = absurd (omega arith)
-some-least st p (opening ∷ s) h = scan-least (stepOf st p opening) (suc p) s (seen-least st p (suc (st .excess)))
-some-least st p (closing ∷ s) h = scan-least (stepOf st p closing) (suc p) s (seen-least st p (pred (st .excess)))
-
 -- x is what has been read with u openings behind: take them off the excess
 pub record Undone (u : ℕ) (x y : Scan) : Type 0 where
   pub fits : u ≤ x .excess
-  pub same : record { excess = x .excess - u; smallest = x .smallest; place = x .place } ≡ y
+  pub same : shorter x u ≡ y
 
-pub undone : (st : Scan) (p : ℕ) (s : List Paren) (u : ℕ) (x : Scan) → scanOf st p s .smallest ≤ scanOf st p s .excess
+undone : (st : Scan) (p : ℕ) (s : List Paren) (u : ℕ) (x : Scan) → scanOf st p s .smallest ≤ scanOf st p s .excess
     → x ≡ scanOf st p (s ++ replicate u opening) → Undone u x (scanOf st p s)
 undone st p s u x h e =
     let y = scanOf st p s in

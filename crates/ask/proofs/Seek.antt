@@ -17,7 +17,7 @@ use Rattle.rules.proofs.Bytes.{lowBits-length, allBits-length, allBits-append}
 use Rattle.rules.proofs.Parts.{closing-first, closing-second, allBits-cut}
 use Rattle.scan.specs.declared.Scan.{Scan}
 use Rattle.scan.specs.Scan.{stepOf, scanOf, Ready}
-use Rattle.scan.proofs.Laws.{scan-append, ready-after, ready-fewer}
+use Rattle.scan.proofs.Laws.{scan-append, scanned, scanned-none, scanned-ready, scanned-more}
 use Rattle.ask.specs.Part.{Ahead, Stops}
 use Rattle.ask.specs.declared.part.Stop.{Stop}
 
@@ -45,31 +45,19 @@ bits-length bs m h = allBits-length (take m bs) ∙ ap (8 *_) (length-take-le m 
 abbrev pub passed : List ℕ → ℕ → ℕ
 passed bs m = closings (allBits (take m bs))
 
--- the state after the first m bytes
-abbrev pub after : Scan → ℕ → List ℕ → ℕ → Scan
-after st at bs m = scanOf st at (allBits (take m bs))
-
-after-more : (st : Scan) (at : ℕ) (bs : List ℕ) (m : ℕ) → m < length bs
-    → scanOf (after st at bs m) (at + 8 * m) (lowBits 8 (getD bs m 0)) ≡ after st at bs (m + 1)
-after-more st at bs m h =
-    rw (bits-more bs m h, scan-append st at (allBits (take m bs)) (lowBits 8 (getD bs m 0)), bits-length bs m (omega arith))
-
-pub after-ready : (st : Scan) (at : ℕ) (bs : List ℕ) (m : ℕ) → m < length bs → Ready st (8 * length bs) → Ready (after st at bs m) 8
-after-ready st at bs m h r =
-    ready-after st at 8 (allBits (take m bs)) (ready-fewer st _ (8 * length bs) (omega (arith, bits-length bs m (omega arith))) r)
-
 -- byte m is being looked at: here is the state before it, next the state behind it, and closing k is not before it
 pub record Seeks (st : Scan) (at : ℕ) (bs : List ℕ) (k : ℕ) (here : Scan) (m : ℕ) (next : Scan) : Type 0 where
   pub within : m < length bs
   pub ahead : passed bs m ≤ k
-  pub before : here ≡ after st at bs m
-  pub behind : next ≡ after st at bs (m + 1)
+  pub before : here ≡ scanned st at bs m
+  pub behind : next ≡ scanned st at bs (m + 1)
   pub level : here .excess + 2 * passed bs m ≡ st .excess + 8 * m
   pub level-next : next .excess + 2 * passed bs (m + 1) ≡ st .excess + 8 * (m + 1)
 
 module _ {st : Scan} {at : ℕ} {bs : List ℕ} {k : ℕ} (h : Ahead st at bs k) where
-  after-level : (m : ℕ) → m ≤ length bs → after st at bs m .excess + 2 * passed bs m ≡ st .excess + 8 * m
-  after-level m l =
+  level-after : (m : ℕ) → m ≤ length bs → scanned st at bs m .excess + 2 * passed bs m ≡ st .excess + 8 * m
+  unfolding scanned
+  level-after m l =
       let n = bits-length bs m l in
       let r = h .ready .room in
       scan-counts st at (allBits (take m bs)) (omega arith) ∙ ap (st .excess +_) n
@@ -94,25 +82,21 @@ module _ {st : Scan} {at : ℕ} {bs : List ℕ} {k : ℕ} (h : Ahead st at bs k)
   pub few : k < 8 * length bs
   few = omega (arith, h .among, counts-length (allBits bs), allBits-length bs)
 
-  seeks : {here : Scan} {m : ℕ} {next : Scan} → m < length bs → passed bs m ≤ k → here ≡ after st at bs m
+  seeks : {here : Scan} {m : ℕ} {next : Scan} → m < length bs → passed bs m ≤ k → here ≡ scanned st at bs m
       → next ≡ scanOf here (at + 8 * m) (lowBits 8 (getD bs m 0)) → Seeks st at bs k here m next
   seeks {here} {m} {next} l p e f =
-      let g : next ≡ after st at bs (m + 1) = f ∙ ap (λ (x : Scan). scanOf x (at + 8 * m) (lowBits 8 (getD bs m 0))) e ∙ after-more st at bs m l in
+      let g : next ≡ scanned st at bs (m + 1) = f ∙ ap (λ (x : Scan). scanOf x (at + 8 * m) (lowBits 8 (getD bs m 0))) e ∙ scanned-more st at m bs l in
       record {
         within = l;
         ahead = p;
         before = e;
         behind = g;
-        level = rw e (after-level m (omega arith));
-        level-next = rw g (after-level (m + 1) (omega arith));
+        level = rw e (level-after m (omega arith));
+        level-next = rw g (level-after (m + 1) (omega arith));
       }
 
-  start : st ≡ after st at bs 0
-  unfolding allBits scanOf
-  start = refl
-
   pub seeks-first : {next : Scan} → next ≡ scanOf st at (lowBits 8 (getD bs 0 0)) → Seeks st at bs k st 0 next
-  seeks-first e = seeks some-byte none start (e ∙ ap (λ (p : ℕ). scanOf st p (lowBits 8 (getD bs 0 0))) (omega arith))
+  seeks-first e = seeks some-byte none (scanned-none st at bs) (e ∙ ap (λ (p : ℕ). scanOf st p (lowBits 8 (getD bs 0 0))) (omega arith))
 
   module _ {here : Scan} {m : ℕ} {next : Scan} (w : Seeks st at bs k here m next) where
     -- closing k is not in byte m
@@ -124,7 +108,7 @@ module _ {st : Scan} {at : ℕ} {bs : List ℕ} {k : ℕ} (h : Ahead st at bs k)
       on-within = more (m + 1) (omega (arith, w .within)) on-ahead
 
       pub on-ready : Ready next 8
-      on-ready = subst⁻¹ (λ (x : Scan). Ready x 8) (w .behind) (after-ready st at bs (m + 1) on-within (h .ready))
+      on-ready = subst⁻¹ (λ (x : Scan). Ready x 8) (w .behind) (scanned-ready st at (m + 1) 1 bs (omega (arith, on-within)) (h .ready))
 
       pub seeks-on : {x : Scan} → x ≡ scanOf next (at + 8 * (m + 1)) (lowBits 8 (getD bs (m + 1) 0)) → Seeks st at bs k next (m + 1) x
       seeks-on e = seeks on-within on-ahead (w .behind) e
@@ -141,6 +125,7 @@ module _ {st : Scan} {at : ℕ} {bs : List ℕ} {k : ℕ} (h : Ahead st at bs k)
           omega (arith, w .level-next, w .ahead)
 
       pub stops : {x : ℕ} → x ≡ closingPlace (lowBits 8 (getD bs m 0)) (k - passed bs m) → Stops st at bs k (record { scan = here; byte = m; bit = x })
+      unfolding scanned
       stops {x} e =
           let u = allBits (take m bs) in
           let b = getD bs m 0 in
@@ -160,7 +145,8 @@ module _ {st : Scan} {at : ℕ} {bs : List ℕ} {k : ℕ} (h : Ahead st at bs k)
 
 module _ {st : Scan} {at : ℕ} {bs : List ℕ} {k : ℕ} {r : Stop} (h : Ahead st at bs k) (w : Stops st at bs k r) where
   pub stop-ready : Ready (r .scan) 8
-  stop-ready = subst⁻¹ (λ (x : Scan). Ready x 8) (w .scan) (after-ready st at bs (r .byte) (w .byte) (h .ready))
+  unfolding scanned
+  stop-ready = subst⁻¹ (λ (x : Scan). Ready x 8) (w .scan) (scanned-ready st at (r .byte) 1 bs (omega (arith, w .byte)) (h .ready))
 
   pub stop-through : scanOf (r .scan) (at + 8 * r .byte) (take (r .bit + 1) (lowBits 8 (getD bs (r .byte) 0))) ≡ scanOf st at (take (closingPlace (allBits bs) k + 1) (allBits bs))
   stop-through =

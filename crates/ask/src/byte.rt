@@ -8,7 +8,7 @@ ghost use Rattle.rules.specs.Excess.{closings, closingPlace};
 ghost use Rattle.rules.specs.Bytes.{lowBits};
 ghost use Rattle.scan.specs.Rows.{rows};
 ghost use Rattle.scan.specs.Scan.{Ready, scanOf};
-ghost use Rattle.ask.specs.Byte.{begun, Begins};
+ghost use Rattle.ask.specs.Byte.{begun, shorter, Begins};
 
 // The bit at which closing number k of byte b stands: k times the first closing is opened.
 pub fn nth(b: u8, k: usize) -> u32
@@ -38,18 +38,24 @@ pub fn behind(t: &[i8; 768], at: usize, b: u8, x: u32, e: usize) -> Scan
     start.byte(t, at, scan::mask::closed(b, x))
 }
 
-// The state after the first k parentheses of byte b. What is behind them is read as openings, which
-// are never the smallest.
+// The state with its last u parentheses taken back, which were openings and so never the smallest.
+fn without(st: Scan, u: u32) -> Scan
+    requires { ⌜ u ≤ st .excess ⌝ }
+    ensures { λ r. ⌜ r ≡ shorter st u ⌝ }
+{
+    Scan {
+        excess: st.excess - (u as usize),
+        smallest: st.smallest,
+        place: st.place,
+    }
+}
+
+// The state after the first k parentheses of byte b. What is behind them is read as openings.
 pub fn upto(st: Scan, t: &[i8; 768], at: usize, b: u8, k: u32) -> Scan
     requires { ⌜ (now t ≡ rows) × Ready st 8 × (at ≤ 1048576) × (0 < k) × (k ≤ 8) ⌝ }
     ensures { λ r. ⌜ r ≡ scanOf st at (take k (lowBits 8 b)) ⌝ }
 {
-    let end = st.byte(t, at, scan::mask::opened(b, k));
-    Scan {
-        excess: end.excess - ((8 - k) as usize),
-        smallest: end.smallest,
-        place: end.place,
-    }
+    without(st.byte(t, at, scan::mask::opened(b, k)), 8 - k)
 }
 
 // The same of a scan that begins at the closing at bit x.
@@ -57,10 +63,5 @@ pub fn within(t: &[i8; 768], at: usize, b: u8, x: u32, e: usize, k: u32) -> Scan
     requires { ⌜ (now t ≡ rows) × Begins at b x e × (x < k) × (k ≤ 8) ⌝ }
     ensures { λ r. ⌜ r ≡ scanOf (begun e (at + x)) (at + x + 1) (drop (x + 1) (take k (lowBits 8 b))) ⌝ }
 {
-    let end = behind(t, at, scan::mask::opened(b, k), x, e);
-    Scan {
-        excess: end.excess - ((8 - k) as usize),
-        smallest: end.smallest,
-        place: end.place,
-    }
+    without(behind(t, at, scan::mask::opened(b, k), x, e), 8 - k)
 }

@@ -1,5 +1,5 @@
-// Plain ask: from a record alone. After the record check each byte up to the answer's last is read
-// once, through the table.
+// Plain ask: from a record alone. Behind the record check each byte up to closing j's is read through
+// the table, and none but the two closings' own more than once.
 pub mod byte;
 pub mod part;
 
@@ -18,7 +18,7 @@ ghost use Rattle.ask.specs.Between.{ground, seenBetween, Asked, Taken};
 // Excesses are counted from here: a record has at most 65,536 parentheses, so none is below 0.
 const GROUND: usize = 65536;
 
-// The closings among the first p parentheses, after which the excess is e.
+// The closings among the first p parentheses, after which the excess is e: each takes two off p.
 fn closings(p: usize, e: usize) -> usize
     requires { ⌜ (p ≤ ground) × (e ≤ p + ground) ⌝ }
     ensures { λ r. ⌜ r ≡ (p + ground - e) / 2 ⌝ }
@@ -26,8 +26,8 @@ fn closings(p: usize, e: usize) -> usize
     (p + GROUND - e) / 2
 }
 
-// The scan that begins with closing i and ends with closing j. Where both stand in one byte, only
-// that byte is read; else the first one's byte, whole bytes, and the last one's.
+// The scan that begins with closing i and ends with closing j: a part of closing i's byte, and where
+// closing j is not in it the whole bytes behind it and a part of closing j's.
 fn lowest(t: &[i8; 768], body: &[u8], i: usize, j: usize) -> Scan
     requires { ⌜ (now t ≡ rows) × Asked (now body) i j ⌝ }
     ensures { λ r. ⌜ r ≡ seenBetween (allBits (now (body .entry))) i j ⌝ }
@@ -64,7 +64,7 @@ fn between(bytes: &[u8], i: usize, j: usize) -> usize
 }
 
 // The leftmost smallest entry from i to j, both counted in, of the column whose record this is: the
-// record check, then 8 for i above j and for j of n or more. It reads the record twice at most.
+// record check, then 8 for i above j or j of n or more. Time in proportion to the record.
 pub fn ask(bytes: &[u8], i: usize, j: usize) -> Answer
     ensures { λ r. ⌜ said r ≡ askSays (now (bytes .entry)) i j ⌝ }
 {

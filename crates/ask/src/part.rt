@@ -17,8 +17,9 @@ pub struct Stop {
     pub bit: u32,
 }
 
-// Closing number k of these bytes, the first of whose parentheses stands at place at. Up to the end of
-// byte m the excess falls by two for each closing, less one for each parenthesis.
+// Closing number k of these bytes, the first of whose parentheses stands at place at. The excess
+// tells how many closings have been read: it is ground, one more for each parenthesis, and two less
+// for each that closes.
 pub fn seek(st: Scan, t: &[i8; 768], part: &[u8], at: usize, k: usize) -> Stop
     requires { ⌜ (now t ≡ rows) × Ahead st at (now part) k ⌝ }
     ensures { λ r. ⌜ Stops st at (now (part .entry)) k r ⌝ }

@@ -1,20 +1,20 @@
 -- A whole record through the scan: all bytes but the last, then the last with its unused bits opened.
 -- Assumes nothing.
-use mathlib.Core.Path.{_≡_, ap, sym, subst⁻¹, _∙_}
+use mathlib.Core.Path.{_≡_, ap, subst⁻¹, _∙_}
 use Prim.Native.Nat.{ℕ, _+_, _-_, _*_, _≤_, _<_}
 use native.Mathlib.Omega.{arith}
 use mathlib.Core.Bool.{false}
-use mathlib.Core.List.{List, _++_, append-assoc}
+use mathlib.Core.List.{List, _++_}
 use lib.Dec.{eqb}
 use lib.ListN.{length, take, drop, replicate, length-drop, length-take}
 use lib.Seq.{length-take-le}
-use Rattle.rules.specs.Shape.{Paren, opening}
+use Rattle.rules.specs.Shape.{opening}
 use Rattle.rules.specs.Excess.{balanced}
 use Rattle.rules.specs.Bytes.{lowBits, allBits, parens}
 use Rattle.rules.proofs.Bytes.{allBits-length}
 use Rattle.scan.specs.declared.Scan.{Scan}
 use Rattle.scan.specs.Scan.{Ready, scanOf}
-use Rattle.scan.proofs.Laws.{scan-append, ready-after}
+use Rattle.scan.proofs.Laws.{scan-opened, ready-after}
 use Rattle.checks.specs.Inside.{Whole}
 use Rattle.checks.proofs.Balance.{in-balance}
 use Rattle.checks.proofs.Last.{spare, before, last, parens-last}
@@ -47,11 +47,9 @@ module _ (r : List ℕ) (n : ℕ) (whole : Whole r n) (some : 0 < n) where
   through x y b e f g =
       let w = whole .exact in
       let few = whole .few in
+      let used = take (8 - spare n) (last r) in
       let u : 8 - (8 - spare n) ≡ spare n = omega arith in
-      let ends = replicate (spare n) opening in
-      let f′ : lowBits 8 b ≡ take (8 - spare n) (last r) ++ ends = f ∙ ap (λ (k : ℕ). take (8 - spare n) (last r) ++ replicate k opening) u in
-      let y₁ : y ≡ scanOf (scanOf start 0 (allBits (before r))) (0 + length (allBits (before r))) (take (8 - spare n) (last r) ++ ends) =
-      rw (before-length, ← e, ← f′) (g ∙ ap (λ (k : ℕ). scanOf x k (lowBits 8 b)) (omega arith)) in
-      let y₂ : y ≡ scanOf start 0 (parens n r ++ ends) =
-      y₁ ∙ sym (scan-append start 0 (allBits (before r)) (take (8 - spare n) (last r) ++ ends)) ∙ ap (scanOf start 0) (sym (append-assoc (allBits (before r)) (take (8 - spare n) (last r)) ends) ∙ ap (λ (s : List Paren). s ++ ends) (sym (parens-last r n whole some))) in
-      in-balance 65536 (spare n) (parens n r) short y y₂
+      let f′ : lowBits 8 b ≡ used ++ replicate (spare n) opening = f ∙ ap (λ (k : ℕ). used ++ replicate k opening) u in
+      let place : 8 * (length r - 1 - 4) ≡ 0 + 8 * length (before r) = omega (arith, before-length, allBits-length (before r)) in
+      in-balance 65536 (spare n) (parens n r) short y
+      (rw (parens-last r n whole some) (scan-opened start x y 0 (before r) b (spare n) used e f′ (rw (← place) g)))

@@ -3,12 +3,13 @@
 use mathlib.Core.Path.{_≡_, refl, ap}
 use Prim.Native.Nat.{ℕ, zero, suc, _+_, _-_, _≤_, _<_}
 use mathlib.Core.List.{List, [], _∷_, _++_}
+use native.Mathlib.Decide.{decLe}
 use native.Mathlib.Omega.{arith}
-use lib.ListN.{length, take}
+use lib.ListN.{length, take, drop, length-take, take-append-drop}
 use lib.Seq.{take-add}
 use Rattle.rules.specs.Shape.{Paren, opening, closing}
 use Rattle.rules.specs.Excess.{openings, closings, closingPlace}
-use Rattle.rules.proofs.Excess.{openings-append, closings-append}
+use Rattle.rules.proofs.Excess.{openings-append, closings-append, counts-length}
 
 -- a longer part has no fewer of anything that is counted
 counted-more : (count : List Paren → ℕ) → ((s t : List Paren) → count (s ++ t) ≡ count s + count t)
@@ -22,6 +23,15 @@ openings-more = counted-more openings openings-append
 
 pub closings-more : (s : List Paren) (a b : ℕ) → a ≤ b → closings (take a s) ≤ closings (take b s)
 closings-more = counted-more closings closings-append
+
+pub closings-part : (s : List Paren) (a : ℕ) → closings (take a s) ≤ closings s
+closings-part s a =
+    omega (arith, closings-append (take a s) (drop a s), ap closings (take-append-drop a s))
+
+-- b parentheses more have at most b closings more
+pub closings-few : (s : List Paren) (a b : ℕ) → closings (take (a + b) s) ≤ closings (take a s) + b
+closings-few s a b =
+    omega (arith, rw closings-append at (ap closings (take-add a b s)), counts-length (take b (drop a s)), length-take b (drop a s))
 
 pub closing-within : (s : List Paren) (k : ℕ) → k < closings s → closingPlace s k < length s
 unfolding closings closingPlace
@@ -51,6 +61,16 @@ closing-among [] k (suc b) h = absurd (omega arith)
 closing-among (opening ∷ s) k (suc b) h = omega (arith, closing-among s k b h)
 closing-among (closing ∷ s) zero (suc b) h = omega arith
 closing-among (closing ∷ s) (suc k) (suc b) h = omega (arith, closing-among s k b (omega arith))
+
+-- it is behind the first a parentheses where these have no more than k
+pub closing-behind : (s : List Paren) (k a : ℕ) → closings (take a s) ≤ k → k < closings s → a ≤ closingPlace s k
+closing-behind s k a h l = by (decLe a (closingPlace s k))
+  where
+    by : Dec (a ≤ closingPlace s k) → a ≤ closingPlace s k
+    by (yes g) = g
+    by (no g) =
+        let near : suc (closingPlace s k) ≤ a = omega arith in
+        absurd (omega (arith, closing-stands s k l, closings-more s (suc (closingPlace s k)) a near))
 
 pub closing-order : (s : List Paren) (i k : ℕ) → i ≤ k → k < closings s → closingPlace s i ≤ closingPlace s k
 closing-order s i k h l =

@@ -31,12 +31,16 @@ least-closes g s i b q h a l w = by (decLt (closingPlace s i) q)
   where
     by : Dec (closingPlace s i < q) → closings (take (suc q) s) ≡ suc (closings (take q s))
     by (yes y) =
-        let m : suc (pred q) ≡ q = omega arith in
         let u = w .upto in
         let p = pred q in
-        let below = w .before p (omega arith) (omega arith) in
-        let x : excess g s p + 2 * closings (take q s) ≡ g + q = rw m at (excess-counts g s p h (omega arith)) in
-        omega (arith, excess-counts g s q h (omega arith), excesses-at g s q (omega arith), excesses-at g s p (omega arith), openings-more s q (suc q) (omega arith), counts-length (take q s), counts-length (take (suc q) s), length-take-le q s (omega arith), length-take-le (suc q) s (omega arith))
+        let m : suc p ≡ q = omega arith in
+        let below : getD (excesses g s) q 0 < getD (excesses g s) p 0 = w .before p (omega arith) (omega arith) in
+        let at-p : excess g s p + 2 * closings (take q s) ≡ g + q = rw m at (excess-counts g s p h (omega arith)) in
+        let at-q = excess-counts g s q h (omega arith) in
+        let upto-p : openings (take q s) + closings (take q s) ≡ q = counts-length (take q s) ∙ length-take-le q s (omega arith) in
+        let upto-q : openings (take (suc q) s) + closings (take (suc q) s) ≡ suc q = counts-length (take (suc q) s) ∙ length-take-le (suc q) s (omega arith) in
+        let more = openings-more s q (suc q) (omega arith) in
+        omega (arith, excesses-at g s q (omega arith), excesses-at g s p (omega arith))
     by (no n) =
         let r = closing-stands s i a in
         let e : closingPlace s i ≡ q = omega (arith, w .from) in

@@ -1,14 +1,15 @@
 -- Laws of excess: counts of openings and closings, the excesses one parenthesis at a time, balanced computed and balanced said.
 -- Each holds of any sequence of parentheses. Assumes nothing.
 use mathlib.Core.Path.{_≡_, refl, ap}
-use Prim.Native.Nat.{ℕ, zero, suc, _+_, _≤_, _<_, zero-le}
+use Prim.Native.Nat.{ℕ, zero, suc, min, _+_, _-_, _≤_, _<_, zero-le}
 use native.Mathlib.Nat.{not-suc-le-zero, le-of-suc-le-suc}
 use native.Mathlib.Numerals.{add-one}
 use native.Mathlib.Omega.{arith}
 use mathlib.Core.Bool.{true, false≢true}
 use mathlib.Core.List.{List, [], _∷_, _++_}
 use borrow.Author.Tests.{eqb-true, eq-eqb}
-use lib.ListN.{length, take, getD}
+use lib.ListN.{length, take, drop, getD, length-take, length-drop}
+use lib.Seq.{getD-take, getD-drop, take-take, take-add, ext-getD}
 use Rattle.rules.specs.Shape.{Paren, opening, closing}
 use Rattle.rules.specs.Excess.{openings, closings, excess, listOf, excesses, Balanced, balancedFrom, balanced}
 
@@ -84,6 +85,30 @@ excesses-length e s = length-listOf (length s) (λ b. excess e s b)
 pub excesses-at : (e : ℕ) (s : List Paren) (b : ℕ) → b < length s → getD (excesses e s) b 0 ≡ excess e s b
 unfolding excesses
 excesses-at e s b h = getD-listOf (length s) (λ b. excess e s b) b 0 h
+
+-- the excesses of the first parentheses, and of those behind them
+pub excesses-take : (e : ℕ) (s : List Paren) (m : ℕ) → take m (excesses e s) ≡ excesses e (take m s)
+unfolding excess
+excesses-take e s m =
+    ext-getD 0 (take m (excesses e s)) (excesses e (take m s)) (simp (length-take, excesses-length)) at
+  where
+    at : (b : ℕ) → b < length (take m (excesses e s)) → getD (take m (excesses e s)) b 0 ≡ getD (excesses e (take m s)) b 0
+    at b h =
+        let l : b < min m (length s) = simp (length-take, excesses-length) at h in
+        rw (getD-take m (excesses e s) b 0 (omega arith), excesses-at e s b (omega arith), excesses-at e (take m s) b (omega (arith, length-take m s)), take-take (b + 1) m s (omega arith))
+
+pub excesses-drop : (e f : ℕ) (s : List Paren) (j : ℕ) → f + closings (take j s) ≡ e + openings (take j s)
+    → drop j (excesses e s) ≡ excesses f (drop j s)
+unfolding excess
+excesses-drop e f s j g =
+    ext-getD 0 (drop j (excesses e s)) (excesses f (drop j s)) (simp (length-drop, excesses-length)) at
+  where
+    at : (b : ℕ) → b < length (drop j (excesses e s)) → getD (drop j (excesses e s)) b 0 ≡ getD (excesses f (drop j s)) b 0
+    at b h =
+        let l : b < length s - j = simp (length-drop, excesses-length) at h in
+        let k : j + b + 1 ≡ j + (b + 1) = omega arith in
+        rw (getD-drop j (excesses e s) b 0, excesses-at e s (j + b) (omega arith), excesses-at f (drop j s) b (omega (arith, length-drop j s)), k, take-add j (b + 1) s, openings-append, closings-append)
+        (omega arith)
 
 -- ---- balanced, from an excess of e on
 

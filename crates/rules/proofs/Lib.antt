@@ -7,10 +7,13 @@ pub mod StandIn
 pub mod Bits
 pub mod Bytes
 pub mod Same
-pub mod Parts
-pub mod Counted
 pub mod Every
 pub mod Checked
 pub mod Record
+pub mod Drawer
+pub mod Summary
 pub mod Table
+pub mod Parts
+pub mod Counted
+pub mod Blocks
 pub mod Window

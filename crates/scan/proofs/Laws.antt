@@ -1,11 +1,11 @@
 -- Laws of the scan: one stretch after another, and how far a stretch can carry a state.
 -- Assumes nothing.
-use mathlib.Core.Path.{_≡_, refl, ap, _∙_}
-use Prim.Native.Nat.{ℕ, zero, suc, pred, _+_, _*_, _≤_, _<_}
+use mathlib.Core.Path.{_≡_, refl, ap, sym, _∙_}
+use Prim.Native.Nat.{ℕ, zero, suc, pred, min, _+_, _*_, _≤_, _<_}
 use native.Mathlib.Nat.{add-zero, add-suc, suc-add, zero-add, le-refl, le-trans}
 use native.Mathlib.Omega.{arith}
 use mathlib.Core.Bool.{Bool, true, false, cond}
-use mathlib.Core.List.{List, [], _∷_, _++_, append-nil}
+use mathlib.Core.List.{List, [], _∷_, _++_, append-nil, append-assoc}
 use borrow.Author.Tests.{ltb-true, ltb-false, le-ltb}
 use lib.Dec.{ltb}
 use native.Mathlib.Numerals.{add-one}
@@ -14,6 +14,9 @@ use lib.Seq.{take-all, take-suc, length-take-le}
 use Rattle.rules.specs.Bytes.{lowBits, allBits}
 use Rattle.rules.proofs.Bytes.{allBits-length, allBits-append}
 use Rattle.rules.specs.Shape.{Paren, opening, closing}
+use Rattle.rules.specs.Excess.{openings, closings, excesses, listOf}
+use Rattle.rules.specs.Summary.{none, smallestOf}
+use Rattle.rules.proofs.Excess.{excesses-opening, excesses-closing}
 use Rattle.scan.specs.declared.Scan.{Scan}
 use Rattle.scan.specs.Scan.{seen, stepOf, scanOf, Ready}
 
@@ -85,7 +88,7 @@ scan-openings e m q p (suc u) h =
     ap (λ (st : Scan). scanOf st (suc p) (replicate u opening)) (step-opening e m q p (omega arith))
     ∙ rw (add-suc e u, ← suc-add e u) (scan-openings (suc e) m q (suc p) u (omega arith))
 
-seen-least : (st : Scan) (p e : ℕ) → seen st p e .smallest ≤ e
+pub seen-least : (st : Scan) (p e : ℕ) → seen st p e .smallest ≤ e
 seen-least st p e = by (ltb e (st .smallest)) refl
   where
     by : (t : Bool) → ltb e (st .smallest) ≡ t → cond (ltb e (st .smallest)) e (st .smallest) ≤ e
@@ -98,10 +101,65 @@ scan-least st p [] h = h
 scan-least st p (opening ∷ s) h = scan-least (stepOf st p opening) (suc p) s (seen-least st p (suc (st .excess)))
 scan-least st p (closing ∷ s) h = scan-least (stepOf st p closing) (suc p) s (seen-least st p (pred (st .excess)))
 
+-- after any parenthesis the smallest is not above the excess
+pub some-least : (st : Scan) (p : ℕ) (s : List Paren) → 0 < length s → scanOf st p s .smallest ≤ scanOf st p s .excess
+unfolding scanOf stepOf
+some-least st p [] h = absurd (omega arith)
+some-least st p (opening ∷ s) h = scan-least (stepOf st p opening) (suc p) s (seen-least st p (suc (st .excess)))
+some-least st p (closing ∷ s) h = scan-least (stepOf st p closing) (suc p) s (seen-least st p (pred (st .excess)))
+
+-- ---- by the excesses
+
+pub scan-excess : (st : Scan) (p : ℕ) (s : List Paren) → length s ≤ st .excess → scanOf st p s .excess + closings s ≡ st .excess + openings s
+unfolding scanOf stepOf openings closings
+scan-excess st p [] h = refl
+scan-excess st p (opening ∷ s) h =
+    let ih = scan-excess (stepOf st p opening) (suc p) s (let l : length s ≤ suc (st .excess) = omega arith in l) in
+    omega arith
+scan-excess st p (closing ∷ s) h =
+    let room : length s ≤ pred (st .excess) = omega arith in
+    let ih : scanOf (stepOf st p closing) (suc p) s .excess + closings s ≡ pred (st .excess) + openings s = scan-excess (stepOf st p closing) (suc p) s room in
+    omega arith
+
+smaller : (g e m : ℕ) → cond (ltb (g + e) (g + m)) (g + e) (g + m) ≡ g + min e m
+smaller g e m = by (ltb (g + e) (g + m)) refl
+  where
+    by : (t : Bool) → ltb (g + e) (g + m) ≡ t → cond t (g + e) (g + m) ≡ g + min e m
+    by true h = omega (arith, ltb-true (g + e) (g + m) h)
+    by false h = omega (arith, ltb-false (g + e) (g + m) h)
+
+no-excess : (e : ℕ) → smallestOf (excesses e []) ≡ none
+unfolding excesses listOf smallestOf
+no-excess e = refl
+
+-- a state counted from the ground g
+abbrev pub grounded : ℕ → ℕ → ℕ → ℕ → Scan
+grounded g e m q = record { excess = g + e; smallest = g + m; place = q }
+
+-- where no excess is below the ground, the smallest is the smaller of the one before and the smallest of the excesses
+pub scan-smallest : (g e m q p : ℕ) (s : List Paren) → m ≤ none → ((b : ℕ) → closings (take b s) ≤ e + openings (take b s))
+    → scanOf (grounded g e m q) p s .smallest ≡ g + min m (smallestOf (excesses e s))
+unfolding scanOf stepOf openings closings smallestOf
+scan-smallest g e m q p [] few above = omega (arith, no-excess e)
+scan-smallest g e m q p (opening ∷ s) few above =
+    let q′ = cond (ltb (g + suc e) (g + m)) p q in
+    let on : stepOf (grounded g e m q) p opening ≡ grounded g (suc e) (min (suc e) m) q′ = rw (← add-suc g e, smaller g (suc e) m) in
+    let all : smallestOf (excesses e (opening ∷ s)) ≡ min (suc e) (smallestOf (excesses (suc e) s)) = ap smallestOf (excesses-opening e s) in
+    let ih = scan-smallest g (suc e) (min (suc e) m) q′ (suc p) s (omega arith) (λ b. omega (arith, above (suc b))) in
+    ap (λ (st : Scan). scanOf st (suc p) s .smallest) on ∙ omega arith
+scan-smallest g zero m q p (closing ∷ s) few above = absurd (let h : 1 ≤ 0 = above 1 in omega arith)
+scan-smallest g (suc e) m q p (closing ∷ s) few above =
+    let q′ = cond (ltb (g + e) (g + m)) p q in
+    let down : pred (g + suc e) ≡ g + e = omega arith in
+    let on : stepOf (grounded g (suc e) m q) p closing ≡ grounded g e (min e m) q′ = rw (down, smaller g e m) in
+    let all : smallestOf (excesses (suc e) (closing ∷ s)) ≡ min e (smallestOf (excesses e s)) = ap smallestOf (excesses-closing e s) in
+    let ih = scan-smallest g e (min e m) q′ (suc p) s (omega arith) (λ b. omega (arith, above (suc b))) in
+    ap (λ (st : Scan). scanOf st (suc p) s .smallest) on ∙ omega arith
+
 -- ---- byte by byte
 
 -- the state after k of the bytes
-pub scanned : Scan → ℕ → List ℕ → ℕ → Scan
+unfoldable pub scanned : Scan → ℕ → List ℕ → ℕ → Scan
 scanned st at bs k = scanOf st at (allBits (take k bs))
 
 pub scanned-none : (st : Scan) (at : ℕ) (bs : List ℕ) → st ≡ scanned st at bs 0
@@ -127,3 +185,10 @@ scanned-more st at k bs h =
   where
     one : (b : ℕ) → allBits (b ∷ []) ≡ lowBits 8 b
     one b = append-nil (lowBits 8 b)
+
+-- bytes, and one more byte whose bits are those of l and then openings
+pub scan-opened : (st x y : Scan) (p : ℕ) (bs : List ℕ) (b u : ℕ) (l : List Paren) → x ≡ scanOf st p (allBits bs)
+    → lowBits 8 b ≡ l ++ replicate u opening → y ≡ scanOf x (p + 8 * length bs) (lowBits 8 b)
+    → y ≡ scanOf st p ((allBits bs ++ l) ++ replicate u opening)
+scan-opened st x y p bs b u l e f g =
+    g ∙ rw (e, f, ← allBits-length bs, append-assoc) (sym (scan-append st p (allBits bs) (l ++ replicate u opening)))

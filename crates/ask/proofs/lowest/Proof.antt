@@ -1,41 +1,49 @@
 -- `ask::lowest` meets its contract: closing i's byte is found, and closing j is in it or in the bytes behind it.
 -- Assumes nothing.
 use mathlib.Core.Path.{_≡_, _∙_}
-use Prim.Native.Nat.{_+_, _-_, _≤_, _<_}
+use Prim.Native.Nat.{ℕ, _+_, _-_, _≤_, _<_}
 use native.Mathlib.Omega.{arith}
+use mathlib.Core.List.{List}
 use lib.ListN.{getD}
 use Rattle.rules.specs.Excess.{closingPlace}
 use Rattle.rules.specs.Bytes.{lowBits}
 use Rattle.ask.proofs.Seek.{passed}
-use Rattle.ask.proofs.FromClosing.{number-low, byte-low, begins, before-fits, before-is, next-fits, next-is, before-low, same-among, same-low, same-order, same-seen, next-part, apart-ahead, apart-seen}
+use Rattle.ask.proofs.FromClosing.{number-low, byte-low, begins, before-fits, before-is, before-low, next-fits, next-is}
+use Rattle.ask.proofs.FromClosing.{same-among, same-low, same-order, same-seen, next-part, apart-ahead, apart-seen}
 use borrow.Author.Needs.{needs}
 use Rattle.ask.proofs.lowest.Statement.{statement}
 use Rattle.ask.proofs.lowest.Tie as tie
 
+abbrev bytes : tie.After-seek → List ℕ
+bytes c = c .before .before .args .body .now
+
+abbrev last : tie.After-seek → ℕ
+last c = c .before .before .args .j
+
+-- closing i's byte
+abbrev own : tie.After-seek → ℕ
+own c = c .seek .result .byte
+
 -- what the calls on the way have told: the closings up to the end of closing i's byte, those before it, and where closing j is
-upto : (c : tie.After-closings) → c .closings .result ≡ passed (c .before .before .before .before .before .args .body .now) (c .before .before .before .seek .result .byte + 1)
+upto : (c : tie.After-closings) → let k = c .before .before .before in c .closings .result ≡ passed (bytes k) (own k + 1)
 upto c =
-    let seek = c .before .before .before in
-    c .closings .ensures ∙ next-is (seek .before .before .pre .1) (seek .seek .ensures) (c .before .behind .result) (c .before .behind .ensures)
+    let k = c .before .before .before in
+    c .closings .ensures ∙ next-is (k .before .before .pre .1) (k .seek .ensures) (c .before .behind .result) (c .before .behind .ensures)
 
-before : (c : tie.After-closings2)
-    → c .closings2 .result ≡ passed (c .before .before .before .before .before .before .before .before .args .body .now) (c .before .before .before .before .before .before .seek .result .byte)
+before : (c : tie.After-closings2) → let k = c .before .before .before .before .before .before in c .closings2 .result ≡ passed (bytes k) (own k)
 before c =
-    let seek = c .before .before .before .before .before .before in
-    c .closings2 .ensures ∙ before-is (seek .before .before .pre .1) (seek .seek .ensures)
+    let k = c .before .before .before .before .before .before in
+    c .closings2 .ensures ∙ before-is (k .before .before .pre .1) (k .seek .ensures)
 
-in-byte : (c : tie.Then1)
-    → c .before .before .before .before .before .before .args .j < passed (c .before .before .before .before .before .before .args .body .now) (c .before .before .before .before .seek .result .byte + 1)
-in-byte c = rw (upto (c .before)) at (c .if1 .taken)
+same : (c : tie.Then1) → let k = c .before .before .before .before in last k < passed (bytes k) (own k + 1)
+same c = rw (upto (c .before)) at (c .if1 .taken)
 
-behind : (c : tie.Else1)
-    → passed (c .before .before .before .before .before .before .args .body .now) (c .before .before .before .before .seek .result .byte + 1) ≤ c .before .before .before .before .before .before .args .j
-behind c = rw (upto (c .before)) at (c .if1 .left)
+apart : (c : tie.Else1) → let k = c .before .before .before .before in passed (bytes k) (own k + 1) ≤ last k
+apart c = rw (upto (c .before)) at (c .if1 .left)
 
 at-bit : (c : tie.After-nth)
-    → let seek = c .before .before .before .before .before .before .before in
-    let args = seek .before .before .args in
-    c .nth .result ≡ closingPlace (lowBits 8 (getD (args .body .now) (seek .seek .result .byte) 0)) (args .j - passed (args .body .now) (seek .seek .result .byte))
+    → let k = c .before .before .before .before .before .before .before in
+    c .nth .result ≡ closingPlace (lowBits 8 (getD (bytes k) (own k) 0)) (last k - passed (bytes k) (own k))
 at-bit c = rw (before (c .before)) at (c .nth .ensures)
 
 seek-requires : tie.Need-seek-requires
@@ -87,49 +95,49 @@ mul-closings c = search needs
 
 closings-requires : tie.Need-closings-requires
 closings-requires c κs =
-    let q = c .before .before .before .before .pre .1 in
-    let w = c .before .before .seek .ensures in
-    (omega (arith, byte-low q w), next-fits q w (c .behind .result) (c .behind .ensures))
+    let k = c .before .before in
+    let q = k .before .before .pre .1 in
+    (omega (arith, byte-low q (k .seek .ensures)), next-fits q (k .seek .ensures) (c .behind .result) (c .behind .ensures))
 
 mul-closings-2 : tie.Need-mul-closings-2
 mul-closings-2 c = search needs
 
 closings-requires-2 : tie.Need-closings-requires-2
 closings-requires-2 c κs =
-    let seek = c .before .before .before .before .before in
-    let q = seek .before .before .pre .1 in
-    (omega (arith, byte-low q (seek .seek .ensures)), before-fits q (seek .seek .ensures))
+    let k = c .before .before .before .before .before in
+    let q = k .before .before .pre .1 in
+    (omega (arith, byte-low q (k .seek .ensures)), before-fits q (k .seek .ensures))
 
 sub-nth : tie.Need-sub-nth
 sub-nth c =
-    let seek = c .before .before .before .before .before .before in
-    rw (before c) (before-low (seek .before .before .pre .1) (seek .seek .ensures))
+    let k = c .before .before .before .before .before .before in
+    rw (before c) (before-low (k .before .before .pre .1) (k .seek .ensures))
 
 nth-requires : tie.Need-nth-requires
 nth-requires c κs =
-    let seek = c .before .before .before .before .before .before in
-    rw (before c) (same-among (seek .before .before .pre .1) (seek .seek .ensures) (in-byte (c .before .before)))
+    let k = c .before .before .before .before .before .before in
+    rw (before c) (same-among (k .before .before .pre .1) (k .seek .ensures) (same (c .before .before)))
 
 mul-within : tie.Need-mul-within
 mul-within c = search needs
 
 add-within : tie.Need-add-within
 add-within c =
-    let seek = c .before .before .before .before .before .before .before in
-    omega (arith, same-low (seek .before .before .pre .1) (seek .seek .ensures) (in-byte (c .before .before .before)) (at-bit c))
+    let k = c .before .before .before .before .before .before .before in
+    omega (arith, same-low (k .before .before .pre .1) (k .seek .ensures) (same (c .before .before .before)) (at-bit c))
 
 within-requires : tie.Need-within-requires
 within-requires c κs =
-    let seek = c .before .before .before .before .before .before .before in
-    let q = seek .before .before .pre .1 in
-    let w = seek .seek .ensures in
-    let h = in-byte (c .before .before .before) in
-    (seek .before .before .pre .0, begins q w, omega (arith, same-order q w h (at-bit c)), omega (arith, same-low q w h (at-bit c)))
+    let k = c .before .before .before .before .before .before .before in
+    let q = k .before .before .pre .1 in
+    let w = k .seek .ensures in
+    let h = same (c .before .before .before) in
+    (k .before .before .pre .0, begins q w, omega (arith, same-order q w h (at-bit c)), omega (arith, same-low q w h (at-bit c)))
 
 returns : tie.Need-returns
 returns c =
-    let seek = c .before .before .before .before .before .before .before .before in
-    c .within .ensures ∙ same-seen (seek .before .before .pre .1) (seek .seek .ensures) (in-byte (c .before .before .before .before)) (at-bit (c .before))
+    let k = c .before .before .before .before .before .before .before .before in
+    c .within .ensures ∙ same-seen (k .before .before .pre .1) (k .seek .ensures) (same (c .before .before .before .before)) (at-bit (c .before))
 
 sub-through : tie.Need-sub-through
 sub-through c = search needs
@@ -145,17 +153,19 @@ mul-through c = search needs
 
 through-requires : tie.Need-through-requires
 through-requires c κs =
-    let seek = c .before .before .before .before .before in
-    let start = seek .before .before in
+    let k = c .before .before .before .before .before in
+    let q = k .before .before .pre .1 in
+    let w = k .seek .ensures in
     let here = c .before .before .before .behind in
-    (start .pre .0, rw (upto (c .before .before), next-part (start .pre .1) (seek .seek .ensures)) (apart-ahead (start .pre .1) (seek .seek .ensures) (here .result) (here .ensures) (behind (c .before))))
+    (k .before .before .pre .0, rw (upto (c .before .before), next-part q w) (apart-ahead q w (here .result) (here .ensures) (apart (c .before))))
 
 returns-2 : tie.Need-returns-2
 returns-2 c =
-    let seek = c .before .before .before .before .before .before in
-    let q = seek .before .before .pre .1 in
+    let k = c .before .before .before .before .before .before in
+    let q = k .before .before .pre .1 in
+    let w = k .seek .ensures in
     let here = c .before .before .before .before .behind in
-    (rw (upto (c .before .before .before), next-part q (seek .seek .ensures)) at (c .through .ensures)) ∙ apart-seen q (seek .seek .ensures) (here .result) (here .ensures) (behind (c .before .before))
+    (rw (upto (c .before .before .before), next-part q w) at (c .through .ensures)) ∙ apart-seen q w (here .result) (here .ensures) (apart (c .before .before))
 
 pub lowest-spec : {M : Type 1} → statement M
 lowest-spec =

@@ -1,5 +1,6 @@
--- `ask::byte::within` meets its contract: the openings read behind the first k parentheses are taken off again.
+-- `ask::byte::within` meets its contract: the openings read behind the first k parentheses are taken back.
 -- Assumes nothing.
+use mathlib.Core.Path.{_∙_}
 use Prim.Native.Nat.{_+_, _-_}
 use lib.ListN.{take, drop}
 use Rattle.rules.specs.Bytes.{lowBits}
@@ -15,8 +16,9 @@ undone : (c : tie.After-behind)
     Undone (8 - a .k) (c .behind .result) (scanOf (begun (a .e) (a .at + a .x)) (a .at + a .x + 1) (drop (a .x + 1) (take (a .k) (lowBits 8 (a .b)))))
 undone c =
     let start = c .before .before in
+    let a = start .args in
     let o = c .before .opened in
-    opened-within (start .args .b) (start .args .k) (o .result) (start .pre .3) (o .ensures) (start .args .at) (start .args .x) (start .args .e) (c .behind .result) (start .pre .2) (c .behind .ensures)
+    opened-within (a .b) (a .k) (o .result) (start .pre .3) (o .ensures) (a .at) (a .x) (a .e) (c .behind .result) (start .pre .2) (c .behind .ensures)
 
 opened-requires : tie.Need-opened-requires
 opened-requires c κs = search needs
@@ -26,18 +28,15 @@ behind-requires c κs =
     let start = c .before in
     (start .pre .0, opened-begins (start .args .b) (start .args .k) (c .opened .result) (start .pre .3) (c .opened .ensures) (start .pre .2) (start .pre .1))
 
-sub-t9 : tie.Need-sub-t9
-sub-t9 c = search needs
+sub-without : tie.Need-sub-without
+sub-without c = search needs
 
-cast-t10 : tie.Need-cast-t10
-cast-t10 c = search needs
-
-sub-t11 : tie.Need-sub-t11
-sub-t11 c = undone (c .before) .fits
+without-requires : tie.Need-without-requires
+without-requires c κs = undone c .fits
 
 returns : tie.Need-returns
-returns c = undone (c .before) .same
+returns c = c .without .ensures ∙ undone (c .before) .same
 
 pub within-spec : {M : Type 1} → statement M
 within-spec =
-    tie.close (tie.spec opened-requires behind-requires sub-t9 cast-t10 sub-t11 returns)
+    tie.close (tie.spec opened-requires behind-requires sub-without without-requires returns)

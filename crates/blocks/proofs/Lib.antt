@@ -1,0 +1,10 @@
+pub mod Bits
+pub mod Nibbles
+pub mod Selects
+pub mod Loaded
+pub mod Lanes
+pub mod Counts
+pub mod Sums
+pub mod Marks
+pub mod Searching
+pub mod Standing

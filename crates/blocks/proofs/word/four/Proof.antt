@@ -1,0 +1,29 @@
+-- `blocks::word::four` meets its contract.
+-- Assumes nothing.
+use borrow.Author.Needs.{needs}
+use Rattle.blocks.proofs.Loaded.{loads-join}
+use Rattle.blocks.proofs.word.four.Statement.{statement}
+use Rattle.blocks.proofs.word.four.Tie as tie
+
+two-requires : tie.Need-two-requires
+two-requires c κs = search needs
+
+add-two : tie.Need-add-two
+add-two c = search needs
+
+two-requires-2 : tie.Need-two-requires-2
+two-requires-2 c κs = search needs
+
+mul-result : tie.Need-mul-result
+mul-result c = search needs
+
+add-result : tie.Need-add-result
+add-result c = search needs
+
+returns : tie.Need-returns
+returns c =
+    let args = c .before .before .before .args in
+    loads-join 2 (args .part .now) (args .at) (c .before .two .result) (c .two2 .result) (c .before .two .ensures) (c .two2 .ensures)
+
+pub four-spec : {M : Type 1} → statement M
+four-spec = tie.close (tie.spec two-requires add-two two-requires-2 mul-result add-result returns)

@@ -1,0 +1,5 @@
+pub mod Beats
+pub mod Parts
+pub mod Closings
+pub mod Ours
+pub mod Standing

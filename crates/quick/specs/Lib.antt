@@ -1,0 +1,3 @@
+pub mod Lowest
+pub mod Part
+pub mod Quick

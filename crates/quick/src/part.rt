@@ -1,0 +1,97 @@
+// Parts of a record's body through the table: from a closing on, up to a closing, a whole block. Each stops
+// where it has come as low as the summary says that the block goes.
+use scan::Scan;
+ghost use mathlib.Core.Path.{_≡_};
+ghost use Prim.Native.Nat.{_+_, _*_, _/_, _≤_, _<_};
+ghost use lib.ListN.{length};
+ghost use Rattle.scan.specs.Rows.{rows};
+ghost use Rattle.scan.specs.Scan.{Ready};
+ghost use Rattle.quick.specs.Part.{endOf, ClosingAt, Lent, Near, Runs, FromClosing, GoesOn};
+
+// Bytes until they end or the smallest is as low as stop.
+fn run(st: Scan, t: &[i8; 768], part: &[u8], at: usize, stop: usize) -> Scan
+    requires { ⌜ (now t ≡ rows) × Ready st (8 * length (now part)) × (at + 8 * length (now part) ≤ 1048576) ⌝ }
+    ensures { λ r. ⌜ Runs st at (now (part .entry)) stop r ⌝ }
+{
+    let mut here = st;
+    let mut m = 0;
+    while m < part.len() {
+        if here.smallest <= stop {
+            return here;
+        }
+        here = here.byte(t, at + 8 * m, part[m]);
+        m += 1;
+    }
+    here
+}
+
+// The byte with which block k ends.
+pub fn end_of(body: &[u8], k: usize) -> usize
+    requires { ⌜ k ≤ 255 ⌝ }
+    ensures { λ r. ⌜ r ≡ endOf (now (body .entry)) k ⌝ }
+{
+    if body.len() < 32 * k + 32 {
+        return body.len();
+    }
+    32 * k + 32
+}
+
+// From the closing at place x, after which the excess is e, to the end of its block k.
+pub fn behind(t: &[i8; 768], body: &[u8], k: usize, x: usize, e: usize, stop: usize) -> Scan
+    requires { ⌜ (now t ≡ rows) × Lent (now body) × (k ≤ 255) × ClosingAt (now body) k x × Near e ⌝ }
+    ensures { λ r. ⌜ FromClosing (now (body .entry)) x (8 * endOf (now (body .entry)) k) e stop r ⌝ }
+{
+    let m = x / 8;
+    let here = ask::byte::behind(t, 8 * m, body[m], (x % 8) as u32, e);
+    let next = m + 1;
+    let end = end_of(body, k);
+    run(here, t, &body[next..end], 8 * next, stop)
+}
+
+// From the start of block k, in state st, up to the closing at place y.
+pub fn upto(st: Scan, t: &[i8; 768], body: &[u8], k: usize, y: usize, stop: usize) -> Scan
+    requires { ⌜ (now t ≡ rows) × Lent (now body) × (k ≤ 255) × ClosingAt (now body) k y × Ready st 256 ⌝ }
+    ensures { λ r. ⌜ GoesOn (now (body .entry)) (256 * k) (y + 1) st stop r ⌝ }
+{
+    let from = 32 * k;
+    let m = y / 8;
+    let here = run(st, t, &body[from..m], 256 * k, stop);
+    if here.smallest <= stop {
+        return here;
+    }
+    ask::byte::upto(here, t, 8 * m, body[m], (y % 8) as u32 + 1)
+}
+
+// From the closing at place x, after which the excess is e, up to the closing at place y of the same block.
+pub fn within(t: &[i8; 768], body: &[u8], k: usize, x: usize, e: usize, y: usize, stop: usize) -> Scan
+    requires { ⌜ (now t ≡ rows) × Lent (now body) × (k ≤ 255) × ClosingAt (now body) k x × Near e × ClosingAt (now body) k y × (x ≤ y) ⌝ }
+    ensures { λ r. ⌜ FromClosing (now (body .entry)) x (y + 1) e stop r ⌝ }
+{
+    let m = x / 8;
+    let q = y / 8;
+    if m == q {
+        return ask::byte::within(t, 8 * m, body[m], (x % 8) as u32, e, (y % 8) as u32 + 1);
+    }
+    let here = ask::byte::behind(t, 8 * m, body[m], (x % 8) as u32, e);
+    let next = m + 1;
+    let mid = run(here, t, &body[next..q], 8 * next, stop);
+    if mid.smallest <= stop {
+        return mid;
+    }
+    ask::byte::upto(mid, t, 8 * q, body[q], (y % 8) as u32 + 1)
+}
+
+// All of block k, before which the excess is e.
+pub fn whole(t: &[i8; 768], body: &[u8], k: usize, e: usize, stop: usize) -> Scan
+    requires { ⌜ (now t ≡ rows) × Lent (now body) × (k ≤ 255) × (32 * k ≤ length (now body)) × Near e ⌝ }
+    ensures { λ r. ⌜ GoesOn (now (body .entry)) (256 * k) (8 * endOf (now (body .entry)) k) (record { excess = e; smallest = 1048576; place = 0 }) stop r ⌝ }
+{
+    let start = Scan {
+        excess: e,
+        smallest: 1048576,
+        place: 0,
+    };
+    let from = 32 * k;
+    let end = end_of(body, k);
+    run(start, t, &body[from..end], 256 * k, stop)
+}

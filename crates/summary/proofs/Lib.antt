@@ -1,0 +1,4 @@
+pub mod Slots
+pub mod Reading
+pub mod Growing
+pub mod Filled

@@ -1,0 +1,28 @@
+-- `random::fill` is safe and ends: k grows up to the length, which stays. Assumes nothing.
+use borrow.Author.Needs.{needs}
+use mathlib.Core.Path.{_≡_}
+use Prim.Native.Nat.{_<_, _-_}
+use lib.ListN.{length}
+use Rattle.vectors.proofs.random.fill.Statement.{statement}
+use Rattle.vectors.proofs.random.fill.Tie as tie
+
+pub fill-spec : {M : Type 1} → statement M
+fill-spec =
+    tie.close
+    (tie.spec
+    (λ column₀ seed values x₀ k₀ part column x k. (length column ≡ length column₀) × (0 < part))
+    (λ column₀ seed values x₀ k₀ part column x k. length column₀ - k)
+    (λ c. search needs)
+    (λ c. search needs)
+    (λ c. search needs)
+    (λ c. search needs)
+    (λ c κs. search needs)
+    (λ c. search needs)
+    (λ c. search needs)
+    (λ c. search needs)
+    (λ c. search needs)
+    (λ c. search needs)
+    (λ c. search needs)
+    (λ c. search needs)
+    (λ c. search needs)
+    (λ c. search needs))

@@ -16,3 +16,4 @@ pub mod Table
 pub mod Parts
 pub mod Counted
 pub mod Blocks
+pub mod Window

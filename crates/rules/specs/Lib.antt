@@ -8,3 +8,4 @@ pub mod Refusal
 pub mod Order
 pub mod Drawer
 pub mod Summary
+pub mod Window

@@ -6,3 +6,4 @@ pub mod Standing
 pub mod Finishing
 pub mod Middle
 pub mod Naming
+pub mod Framing

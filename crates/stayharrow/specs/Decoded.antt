@@ -42,7 +42,7 @@ FitsFound (found p l) = (p < 2 ^ 31) × (l < 2 ^ 32)
 FitsFound (lost k) = Listed k
 
 abbrev pub FitsWhence : Whence → Type 0
-FitsWhence (stands w) = 0 < 1
+FitsWhence (stands w) = Unit {0}
 FitsWhence (refusedBy w k) = Listed k
 
 -- what has room is read back, so that two outcomes with one number are one

@@ -91,7 +91,7 @@ module _ (r t : List ℕ) (n i j : ℕ) where
             refused = λ k g. never k n (sym g ∙ e);
             allowed = λ m g. f .allowed;
             named = λ m g. f .named;
-            right = λ m g ours. f .right n ours refl;
+            right = λ m g ours. f .right ours;
           }
 
 -- ---- the whole ask

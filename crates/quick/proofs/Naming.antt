@@ -1,6 +1,6 @@
 -- The two blocks that a summary names: where they can't be, the summary is not the record's own, and where they can, the closings stand there.
 -- Assumes nothing.
-use mathlib.Core.Path.{_≡_, refl, ap}
+use mathlib.Core.Path.{_≡_, refl}
 use mathlib.Core.Logic.{⊎-elim}
 use Prim.Native.Nat.{ℕ, _/_, _≤_, _<_}
 use native.Mathlib.Omega.{arith}
@@ -20,7 +20,7 @@ named-block body t n k a ours h there =
 
 module _ (body t : List ℕ) (m i j : ℕ) (order : i ≤ j) (among : j < m) where
   nine : (Ours body t m → 1 ≤ 0) → Found body t m i j (refusal 9)
-  nine h = record { allowed = refl; named = λ s. refl; right = λ n ours e. absurd (omega (arith, h (rw e ours))) }
+  nine h = record { allowed = refl; named = λ s. refl; right = λ ours. absurd (omega (arith, h ours)) }
 
   -- the summary names no block of the record
   pub first-missing : (a : ℕ) → StandsIn t (blocksFor m) i a → blocksFor m ≤ a → Found body t m i j (refusal 9)
@@ -44,15 +44,15 @@ module _ (body t : List ℕ) (m i j : ℕ) (order : i ≤ j) (among : j < m) whe
         record {
           allowed = spans .allowed;
           named = ⊎-elim (λ s. absurd (omega (arith, first .strange s))) (λ s. absurd (omega (arith, last .strange s)));
-          right = λ n ours e. spans .right n (asks n ours e);
+          right = λ ours. spans .right m (asks ours);
         }
       where
-        asks : (n : ℕ) → Ours body t n → m ≡ n → Asks body t n a b i j
-        asks n ours e =
+        asks : Ours body t m → Asks body t m a b i j
+        asks ours =
             record {
               ours = ours;
               order = order;
-              among = omega arith;
-              first = first .right (parensIn body n) n (ours .own) (omega arith) (ap blocksFor e);
-              last = last .right (parensIn body n) n (ours .own) (omega arith) (ap blocksFor e);
+              among = among;
+              first = first .right (parensIn body m) m (ours .own) (omega arith) refl;
+              last = last .right (parensIn body m) m (ours .own) among refl;
             }

@@ -87,10 +87,10 @@ pub record Spans (body t : List ℕ) (a b i j : ℕ) (o : Outcome) : Type 0 wher
   pub right : (n : ℕ) → Asks body t n a b i j → o ≡ answer (entryBetween (parensIn body n) i j)
 
 -- by the two blocks that the summary names
-pub record Found (body t : List ℕ) (m i j : ℕ) (o : Outcome) : Type 0 where
+pub record Found (body t : List ℕ) (n i j : ℕ) (o : Outcome) : Type 0 where
   pub allowed : Allowed i j o
-  pub named : strange t m i ⊎ strange t m j → o ≡ refusal 9
-  pub right : (n : ℕ) → Ours body t n → m ≡ n → o ≡ answer (entryBetween (parensIn body n) i j)
+  pub named : strange t n i ⊎ strange t n j → o ≡ refusal 9
+  pub right : Ours body t n → o ≡ answer (entryBetween (parensIn body n) i j)
 
 -- behind the frame
 pub record Framed (r t : List ℕ) (n i j : ℕ) (o : Outcome) : Type 0 where

@@ -12,9 +12,10 @@ use Rattle.rules.specs.Excess.{openings, balanced, entryBetween}
 use Rattle.rules.specs.Bytes.{most, recordLength, entries, parens, unused}
 use Rattle.rules.specs.Refusal.{Outcome, answer, refusal, unlessRefused}
 use Rattle.rules.specs.Order.{frameSays, checkSays, buildSays, askSays, standInSays}
-use Rattle.rules.specs.Summary.{slots, fillSays}
+use Rattle.rules.specs.Summary.{slots, fillSays, quickChecks, Allowed, QuickSays}
 use Rattle.rules.specs.Drawer.{mostBytes, mostRecords, own, shared, Found, found, lost, ifFramed, seek, findSays, inShared, ownFirst, lookSays, Whence, stands, refusedBy, whence, whichSays, oneMore, recordsFrom, recordsIn, appendSays}
 use Rattle.rules.specs.Window.{windowSays, keptBytes, keptFirst, keptLast, windowAskSays, throughSays}
+use Rattle.rules.proofs.Checked.{not-refused, passed, went-on}
 use Rattle.rules.proofs.Drawer.{frame-within, build-answers}
 use Rattle.window.proofs.Windows.{asked-within}
 use Rattle.stayharrow.specs.Coded.{refused, coded, codedFound, codedWhence, accepted}
@@ -137,6 +138,41 @@ ask-fits r i j =
     omega (arith, asked-within r i j (entryBetween (parens n r) i j) says .1))
     (λ _. listed 8 refl refl)))
 
+-- the checks before a quick ask's answer: n above j
+quick-fits : (r : List ℕ) (m i j : ℕ) → Fits (quickChecks r m i j)
+unfolding quickChecks
+quick-fits r m i j =
+    on Fits (frameSays r) (passed-on (frameSays r) (frame-fits r))
+    (λ n e. test Fits (ltb (recordLength n) (length r)) (λ _. listed 11 refl refl)
+    (λ _. test Fits (ltb m slots) (λ _. listed 3 refl refl)
+    (λ _. test Fits (ltb j i) (λ _. listed 8 refl refl)
+    (λ _. test Fits (ltb j n) (λ _. answered (frameSays r) (frame-fits r) n e) (λ _. listed 8 refl refl)))))
+
+quick-below : (r : List ℕ) (m i j n : ℕ) → quickChecks r m i j ≡ answer n → j < n
+unfolding quickChecks
+quick-below r m i j n e =
+    let (k, framed, on) = went-on (frameSays r) e in
+    let a = not-refused (ltb (recordLength k) (length r)) 11 on in
+    let b = not-refused (ltb m slots) 3 (a .1) in
+    let c = not-refused (ltb j i) 8 (b .1) in
+    let d = passed (ltb j k) 8 (c .1) in
+    let same : k ≡ n = cc (d .1) in
+    omega (arith, ltb-true j k (d .0))
+
+allowed-fits : (i j : ℕ) (o : Outcome) → j < 2 ^ 63 → Allowed i j o → Fits o
+allowed-fits i j (answer q) h a = omega arith
+allowed-fits i j (refusal k) h a = rw a (listed 9 refl refl)
+
+quick-ask-fits : (r t : List ℕ) (i j : ℕ) (o : Outcome) → QuickSays r t i j o → Fits o
+quick-ask-fits r t i j o q = by (quickChecks r (length t) i j) refl
+  where
+    by : (c : Outcome) → quickChecks r (length t) i j ≡ c → Fits o
+    by (answer n) e =
+        let few : n < 2 ^ 63 = answered (quickChecks r (length t) i j) (quick-fits r (length t) i j) n e in
+        let below : j < n = quick-below r (length t) i j n e in
+        allowed-fits i j o (omega arith) (q .allowed n e)
+    by (refusal k) e = rw (q .refused k e) (passed-on (quickChecks r (length t) i j) (quick-fits r (length t) i j) k e)
+
 window-fits : (r : List ℕ) (f l : ℕ) → Fits (windowSays r f l)
 unfolding windowSays
 window-fits r f l =
@@ -228,6 +264,7 @@ has-room =
       check = λ r. accepts (checkSays r) (check-fits r);
       fill = λ r m. accepts (fillSays r m) (fill-fits r m);
       ask = ask-fits;
+      quick-ask = quick-ask-fits;
       stand-in = stand-in-fits;
       find = find-fits;
       which = which-fits;

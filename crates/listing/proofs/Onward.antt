@@ -1,24 +1,23 @@
 -- What is left of a listing, one line at a time.
 -- Assumes nothing.
-use mathlib.Core.Path.{_≡_, refl, sym, ap, _∙_}
+use mathlib.Core.Path.{_≡_, refl, ap, _∙_}
 use Prim.Native.Nat.{ℕ, zero, suc, _+_, _-_, _≤_, _<_}
 use native.Mathlib.Nat.{add-zero, zero-add}
 use native.Mathlib.Omega.{arith}
 use mathlib.Core.List.{List, [], _∷_}
 use borrow.Author.Tests.{lt-ltb}
 use lib.ListN.{length, take, drop, length-drop, drop-of-length-le}
-use lib.Seq.{drop-drop}
+use lib.Seq.{drop-drop, length-sets}
 use Rattle.rules.specs.Bytes.{recordLength}
 use Rattle.rules.specs.Refusal.{answer, refusal}
 use Rattle.rules.specs.Order.{frameSays}
 use Rattle.rules.specs.Drawer.{mostRecords}
 use Rattle.rules.specs.Listing.{refusedLine, endLine, recordLine, linesFrom, endedLines}
-use Rattle.rules.proofs.Drawer.{frame-within}
 use Rattle.listing.specs.declared.Rest.{Rest}
-use Rattle.listing.specs.declared.Rest.the-variants.{Lines, Nothing}
+use Rattle.listing.specs.declared.Rest.the-variants.{Lines}
 use Rattle.listing.specs.declared.Step.{Step}
 use Rattle.listing.specs.Wrote.{Wrote}
-use Rattle.listing.specs.Left.{linesLeft, Step·Writes}
+use Rattle.listing.specs.Left.{linesLeft, firstLine, otherLines, Step·Writes}
 
 lines-none : (m k : ℕ) → linesFrom m k [] ≡ []
 unfolding linesFrom
@@ -63,3 +62,15 @@ pub writes : {d o o′ : List ℕ} {from rest : Rest} {l : List ℕ} {r : ℕ} �
     → Step·Writes d from o (record { length = r; rest = rest }) o′
 writes e w =
     record { size = w .behind ∙ rw e (zero-add _); out = rw e (w .stored); room = w .room; onward = rw e }
+
+-- what a caller in a loop goes by: the buffer keeps its length, and each line that is written is one fewer
+module _ {d o o′ : List ℕ} {from : Rest} {s : Step} (w : Step·Writes d from o s o′) where
+  pub same-room : length o′ ≡ length o
+  same-room = ap length (w .out) ∙ length-sets o 0 (firstLine (linesLeft d from))
+
+  pub one-fewer : (s .length ≡ 0 → ⊥) → length (linesLeft d (s .rest)) < length (linesLeft d from)
+  one-fewer h = rw (w .onward) (by (linesLeft d from) (w .size))
+    where
+      by : (ls : List (List ℕ)) → s .length ≡ length (firstLine ls) → length (otherLines ls) < length ls
+      by [] e = absurd (h e)
+      by (l ∷ ls) e = omega arith

@@ -7,6 +7,7 @@ mod text;
 
 use answers::Answer;
 ghost use mathlib.Core.Path.{_≡_};
+ghost use lib.ListN.{length};
 ghost use Rattle.rules.specs.Listing.{listingLines};
 ghost use Rattle.listing.specs.Left.{linesLeft, Step·Writes};
 
@@ -25,6 +26,13 @@ pub enum Rest {
 pub struct Step {
     pub length: usize,
     pub rest: Rest,
+}
+
+// Room for the longest line: three numbers with a blank behind each, 65,536 parentheses and the line's end.
+pub fn buffer() -> [u8; 65600]
+    ensures { λ r. ⌜ 65600 ≡ length r ⌝ }
+{
+    [0; 65600]
 }
 
 // The whole listing of a drawer, nothing of it written yet.

@@ -28,5 +28,8 @@ fn folder() -> PathBuf {
         return PathBuf::from(named);
     }
     let here = env::var_os("CARGO_MANIFEST_DIR").expect("cargo sets CARGO_MANIFEST_DIR");
-    Path::new(&here).join("../build/archive")
+    let root = Path::new(&here)
+        .parent()
+        .expect("the crate is in a folder of the repository");
+    root.join("target/archive")
 }

@@ -5,7 +5,7 @@ use std::process::ExitCode;
 use std::time::{Duration, Instant};
 
 use trials::random::Random;
-use trials::rig::{Difference, Entry, Rig};
+use trials::rig::{ARCHIVE, Difference, Entry, Rig};
 use trials::suites::{SUITES, Suite};
 
 const USAGE: &str = "usage: trials short | long [FACTOR] | case SUITE NUMBER   [--seed SEED]
@@ -58,7 +58,7 @@ fn long(seed: u64, factor: u64) -> ExitCode {
 }
 
 fn one(seed: u64, suite: &Suite, number: u64) -> ExitCode {
-    let mut rig = Rig::default();
+    let mut rig = Rig::new(ARCHIVE);
     let mut random = Random::new(seed, suite.name, number);
     match (suite.run)(&mut rig, &mut random, number) {
         Ok(()) => {
@@ -84,7 +84,7 @@ fn differs(seed: u64, suite: &Suite, number: u64, difference: &Difference) -> Ex
 
 fn run(seed: u64, cases_of: impl Fn(&Suite) -> u64) -> ExitCode {
     let begun = Instant::now();
-    let mut rig = Rig::default();
+    let mut rig = Rig::new(ARCHIVE);
     println!("seed {seed}");
     for suite in &SUITES {
         let (cases, calls, start) = (cases_of(suite), rig.calls(), Instant::now());

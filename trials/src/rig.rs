@@ -2,7 +2,7 @@
 
 use std::fmt::Debug;
 
-use stayharrow::entry::{self, Answer};
+use stayharrow::entry;
 
 use crate::lent::{Element, Lent};
 use crate::rules::{self, Body, Column, Quick, Said};
@@ -83,6 +83,48 @@ impl Entry {
     }
 }
 
+/// The functions that are tried, one for each entry point: the archive's, or others that should answer as they do.
+#[derive(Clone, Copy, Debug)]
+pub struct Calls {
+    /// Build.
+    pub build: fn(&[u32], &mut [u16], &mut [u8]) -> u64,
+    /// The record check.
+    pub check: fn(&[u8]) -> u64,
+    /// Fill.
+    pub fill: fn(&[u8], &mut [u16]) -> u64,
+    /// The plain ask.
+    pub ask: fn(&[u8], usize, usize) -> u64,
+    /// The quick ask.
+    pub quick_ask: fn(&[u8], &[u16], usize, usize) -> u64,
+    /// The stand-in.
+    pub stand_in: fn(&[u8], &mut [u32]) -> u64,
+    /// Find.
+    pub find: fn(&[u8], usize) -> u64,
+    /// Which.
+    pub which: fn(&[u8], &[u8], usize) -> u64,
+    /// Append.
+    pub append: fn(&mut [u8], usize, &[u32], &mut [u16]) -> u64,
+    /// The refusal of a window.
+    pub window: fn(&[u8], usize, usize) -> u64,
+    /// An ask in a window.
+    pub window_ask: fn(&[u8], usize, usize, usize, usize) -> u64,
+}
+
+/// The archive's own.
+pub const ARCHIVE: Calls = Calls {
+    build: |column, work, out| entry::build(column, work, out).bits(),
+    check: |bytes| entry::check(bytes).bits(),
+    fill: |record, summary| entry::fill(record, summary).bits(),
+    ask: |record, i, j| entry::ask(record, i, j).bits(),
+    quick_ask: |record, summary, i, j| entry::quick_ask(record, summary, i, j).bits(),
+    stand_in: |record, column| entry::stand_in(record, column).bits(),
+    find: |drawer, r| entry::find(drawer, r).bits(),
+    which: |own, shared, r| entry::which(own, shared, r).bits(),
+    append: |buffer, used, column, work| entry::append(buffer, used, column, work).bits(),
+    window: |record, first, last| entry::window(record, first, last).bits(),
+    window_ask: |record, first, last, i, j| entry::window_ask(record, first, last, i, j).bits(),
+};
+
 /// A call whose answer or memory is not what the rules say.
 #[derive(Clone, Debug)]
 pub struct Difference(pub String);
@@ -120,8 +162,9 @@ impl Bytes {
 }
 
 /// The lent memory, used again from call to call, and the counts.
-#[derive(Debug, Default)]
+#[derive(Debug)]
 pub struct Rig {
+    calls: Calls,
     case: u64,
     bytes: Lent<u8>,
     other: Lent<u8>,
@@ -153,6 +196,22 @@ fn short<T: Debug>(elements: &[T]) -> String {
 }
 
 impl Rig {
+    /// A rig that tries these functions.
+    pub fn new(calls: Calls) -> Rig {
+        Rig {
+            calls,
+            case: 0,
+            bytes: Lent::default(),
+            other: Lent::default(),
+            counts: Lent::default(),
+            numbers: Lent::default(),
+            tally: [[0; 15]; 11],
+            foreign_places: 0,
+            shared_refusals: 0,
+            shared: 0,
+        }
+    }
+
     /// How many calls there were.
     pub fn calls(&self) -> u64 {
         self.tally.iter().flatten().sum()
@@ -163,9 +222,8 @@ impl Rig {
         self.case
     }
 
-    fn count(&mut self, entry: Entry, answer: Answer) {
-        let bits = answer.bits();
-        let outcome = if bits >> 63 == 0 { 0 } else { bits as u8 };
+    fn count(&mut self, entry: Entry, answer: u64) {
+        let outcome = if answer >> 63 == 0 { 0 } else { answer as u8 };
         if let Some(count) = self.tally[entry as usize].get_mut(outcome as usize) {
             *count += 1;
         }
@@ -174,12 +232,12 @@ impl Rig {
     fn answered(
         &mut self,
         entry: Entry,
-        answer: Answer,
+        answer: u64,
         said: Said,
         case: impl FnOnce() -> String,
     ) -> Trial {
         self.count(entry, answer);
-        if answer.bits() == word(said, false) {
+        if answer == word(said, false) {
             return Ok(());
         }
         Err(differs(entry, answer, &format!("{said:?}"), case()))
@@ -196,7 +254,7 @@ impl Rig {
             self.bytes.expect(&column.record);
             self.numbers.expect(&vec![0; column.counts.len()]);
         }
-        let answer = entry::build(
+        let answer = (self.calls.build)(
             self.counts.slice(),
             self.numbers.slice_mut(),
             self.bytes.slice_mut(),
@@ -220,7 +278,7 @@ impl Rig {
         let case = self.next();
         self.bytes.lay(&bytes.bytes, case);
         let said = bytes.checked.as_ref().map(|_| 0).map_err(|&number| number);
-        let answer = entry::check(self.bytes.slice());
+        let answer = (self.calls.check)(self.bytes.slice());
         let show = || format!("bytes {}", short(&bytes.bytes));
         self.answered(Entry::Check, answer, said, show)?;
         kept(Entry::Check, "the bytes", &self.bytes, show)
@@ -239,7 +297,7 @@ impl Rig {
                 .expect("an accepted record has a summary");
             self.numbers.expect(own);
         }
-        let answer = entry::fill(self.bytes.slice(), self.numbers.slice_mut());
+        let answer = (self.calls.fill)(self.bytes.slice(), self.numbers.slice_mut());
         let show = || format!("bytes {}, summary {}", short(&bytes.bytes), summary.len());
         self.answered(Entry::Fill, answer, said, show)?;
         kept(Entry::Fill, "the bytes", &self.bytes, show)?;
@@ -259,7 +317,7 @@ impl Rig {
                 "the rules themselves differ: column {column:?}, {i}..={j}"
             );
         }
-        let answer = entry::ask(self.bytes.slice(), i, j);
+        let answer = (self.calls.ask)(self.bytes.slice(), i, j);
         let show = || format!("bytes {}, i {i}, j {j}", short(&bytes.bytes));
         self.answered(Entry::Ask, answer, said, show)?;
         kept(Entry::Ask, "the bytes", &self.bytes, show)
@@ -272,7 +330,7 @@ impl Rig {
         self.numbers.lay(summary, case);
         let own = bytes.summary.as_deref();
         let may = rules::quick_ask(&bytes.bytes, &bytes.checked, own, summary, i, j);
-        let answer = entry::quick_ask(self.bytes.slice(), self.numbers.slice(), i, j);
+        let answer = (self.calls.quick_ask)(self.bytes.slice(), self.numbers.slice(), i, j);
         let show = || {
             format!(
                 "bytes {}, summary {}, i {i}, j {j}",
@@ -281,13 +339,12 @@ impl Rig {
             )
         };
         self.count(Entry::QuickAsk, answer);
-        let bits = answer.bits();
-        let said = if bits >> 63 == 0 {
-            Ok(bits)
+        let said = if answer >> 63 == 0 {
+            Ok(answer)
         } else {
-            Err(bits as u8)
+            Err(answer as u8)
         };
-        if !may.allows(said) || bits != word(said, false) {
+        if !may.allows(said) || answer != word(said, false) {
             return Err(differs(
                 Entry::QuickAsk,
                 answer,
@@ -311,7 +368,7 @@ impl Rig {
         if let (Ok(_), Ok(body)) = (said, &bytes.checked) {
             self.counts.expect(&body.stand_in());
         }
-        let answer = entry::stand_in(self.bytes.slice(), self.counts.slice_mut());
+        let answer = (self.calls.stand_in)(self.bytes.slice(), self.counts.slice_mut());
         let show = || format!("bytes {}, column {}", short(&bytes.bytes), column.len());
         self.answered(Entry::StandIn, answer, said, show)?;
         kept(Entry::StandIn, "the bytes", &self.bytes, show)?;
@@ -324,7 +381,7 @@ impl Rig {
         self.bytes.lay(drawer, case);
         let said =
             rules::find(drawer, r).map(|(place, length)| (place as u64) << 32 | length as u64);
-        let answer = entry::find(self.bytes.slice(), r);
+        let answer = (self.calls.find)(self.bytes.slice(), r);
         let show = || format!("drawer {}, r {r}", short(drawer));
         self.answered(Entry::Find, answer, said, show)?;
         kept(Entry::Find, "the drawer", &self.bytes, show)
@@ -336,14 +393,14 @@ impl Rig {
         self.bytes.lay(own, case);
         self.other.lay(shared, case);
         let says = rules::which(own, shared, r);
-        let answer = entry::which(self.bytes.slice(), self.other.slice(), r);
+        let answer = (self.calls.which)(self.bytes.slice(), self.other.slice(), r);
         let show = || format!("own {}, shared {}, r {r}", short(own), short(shared));
         self.count(Entry::Which, answer);
         let should = match says {
             Ok(shared) => u64::from(shared),
             Err((number, shared)) => word(Err(number), shared),
         };
-        if answer.bits() != should {
+        if answer != should {
             return Err(differs(Entry::Which, answer, &format!("{says:?}"), show()));
         }
         self.shared += u64::from(says == Ok(true));
@@ -363,7 +420,7 @@ impl Rig {
             self.bytes.expect_at(used, &column.record);
             self.numbers.expect(&vec![0; column.counts.len()]);
         }
-        let answer = entry::append(
+        let answer = (self.calls.append)(
             self.bytes.slice_mut(),
             used,
             self.counts.slice(),
@@ -388,7 +445,7 @@ impl Rig {
         let case = self.next();
         self.bytes.lay(&bytes.bytes, case);
         let said = rules::window(&bytes.checked, first, last);
-        let answer = entry::window(self.bytes.slice(), first, last);
+        let answer = (self.calls.window)(self.bytes.slice(), first, last);
         let show = || format!("bytes {}, first {first}, last {last}", short(&bytes.bytes));
         self.answered(Entry::Window, answer, said, show)?;
         kept(Entry::Window, "the bytes", &self.bytes, show)
@@ -399,7 +456,7 @@ impl Rig {
         let case = self.next();
         self.bytes.lay(&bytes.bytes, case);
         let said = rules::window_ask(&bytes.checked, first, last, i, j);
-        let answer = entry::window_ask(self.bytes.slice(), first, last, i, j);
+        let answer = (self.calls.window_ask)(self.bytes.slice(), first, last, i, j);
         let show = || {
             format!(
                 "bytes {}, first {first}, last {last}, i {i}, j {j}",
@@ -411,11 +468,11 @@ impl Rig {
     }
 }
 
-fn differs(entry: Entry, answer: Answer, should: &str, case: String) -> Difference {
+fn differs(entry: Entry, answer: u64, should: &str, case: String) -> Difference {
     Difference(format!(
         "{}: the archive says {:#x}, the rules say {should}; {case}",
         entry.name(),
-        answer.bits()
+        answer
     ))
 }
 

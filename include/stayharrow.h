@@ -90,6 +90,17 @@ uint64_t stayharrow_fill(const uint8_t *record, size_t record_length, uint16_t *
 uint64_t stayharrow_ask(const uint8_t *record, size_t record_length, size_t i, size_t j);
 
 /*
+ * The same from the record and the summary that stayharrow_fill has filled from it: stayharrow_ask's answer,
+ * in a handful of blocks whatever n is. It reads the record's head and those blocks, and does not check the
+ * rest. Where the record would fail its check or the first 896 numbers are not its summary, it answers some
+ * place from i to j, or refuses with 9; with 9 always where summary number 768 + i / 256 or 768 + j / 256
+ * names a block that the record has not got.
+ * Refusals: 5 for fewer than 4 bytes; 4; 1; 5; 11; 3 for a summary shorter than 896; 8; 9.
+ */
+uint64_t stayharrow_quick_ask(const uint8_t *record, size_t record_length, const uint16_t *summary,
+                              size_t summary_length, size_t i, size_t j);
+
+/*
  * Writes a column that has this record to the first n numbers, and no others; answers n. Its counts are the
  * excesses just after each closing parenthesis: the record holds the column's order, never its counts.
  * Refusals: the record check's; 2 for fewer than n numbers.

@@ -5,3 +5,6 @@ pub mod Ours
 pub mod Standing
 pub mod Finishing
 pub mod Middle
+pub mod Joined
+pub mod Naming
+pub mod Framing

@@ -11,6 +11,7 @@ pub mod Every
 pub mod Checked
 pub mod Record
 pub mod Drawer
+pub mod Listing
 pub mod Summary
 pub mod Table
 pub mod Parts

@@ -7,5 +7,6 @@ pub mod Bytes
 pub mod Refusal
 pub mod Order
 pub mod Drawer
+pub mod Listing
 pub mod Summary
 pub mod Window

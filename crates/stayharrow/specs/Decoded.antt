@@ -7,7 +7,7 @@ use lib.Dec.{ltb, eqb}
 use Rattle.rules.specs.Refusal.{Outcome, answer, refusal}
 use Rattle.rules.specs.Order.{checkSays, buildSays, askSays, standInSays}
 use Rattle.rules.specs.Drawer.{Drawer, own, shared, Found, found, lost, findSays, Whence, stands, refusedBy, whichSays, appendSays}
-use Rattle.rules.specs.Summary.{fillSays}
+use Rattle.rules.specs.Summary.{fillSays, QuickSays}
 use Rattle.rules.specs.Window.{windowSays, throughSays}
 use Rattle.stayharrow.specs.Coded.{coded, codedFound, codedWhence, accepted}
 
@@ -62,6 +62,7 @@ pub record HasRoom : Type 0 where
   pub check : (r : List ℕ) → Fits (accepted (checkSays r))
   pub fill : (r : List ℕ) (m : ℕ) → Fits (accepted (fillSays r m))
   pub ask : (r : List ℕ) (i j : ℕ) → Fits (askSays r i j)
+  pub quick-ask : (r t : List ℕ) (i j : ℕ) (o : Outcome) → QuickSays r t i j o → Fits o
   pub stand-in : (r : List ℕ) (m : ℕ) → Fits (standInSays r m)
   pub find : (d : List ℕ) (r : ℕ) → FitsFound (findSays d r)
   pub which : (d s : List ℕ) (r : ℕ) → FitsWhence (whichSays d s r)

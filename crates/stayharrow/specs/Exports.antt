@@ -1,10 +1,12 @@
--- The contracts of the functions that write: the number that they answer, and what each lent buffer holds at the end, for every input.
+-- The contracts of the functions that write: the number that they answer, and what each lent buffer holds at the end, for every input. And that
+-- of the quick ask, whose rule allows several outcomes where the summary is foreign (docs/EXCEPTIONS.md).
 use mathlib.Core.Path.{_≡_}
 use Prim.Native.Nat.{ℕ}
 use mathlib.Core.List.{List}
 use lib.ListN.{length}
+use Rattle.rules.specs.Refusal.{Outcome}
 use Rattle.rules.specs.Order.{buildSays, outputAfter, workAfter, standInSays, columnAfter}
-use Rattle.rules.specs.Summary.{fillSays, summaryAfter}
+use Rattle.rules.specs.Summary.{fillSays, summaryAfter, QuickSays}
 use Rattle.rules.specs.Drawer.{appendSays, bufferAfter, workAfterAppend}
 use Rattle.stayharrow.specs.Coded.{coded, accepted}
 
@@ -18,6 +20,12 @@ pub record Built (c w o : List ℕ) (x : ℕ) (w′ o′ : List ℕ) : Type 0 wh
 pub record Filled (r t : List ℕ) (x : ℕ) (t′ : List ℕ) : Type 0 where
   pub says : x ≡ coded (accepted (fillSays r (length t)))
   pub summary : t′ ≡ summaryAfter r t
+
+-- record, summary and question; the number of an outcome that is allowed
+pub record QuickAsked (r t : List ℕ) (i j : ℕ) (x : ℕ) : Type 0 where
+  pub outcome : Outcome
+  pub allowed : QuickSays r t i j outcome
+  pub says : x ≡ coded outcome
 
 -- record and column; the number; the column at the end
 pub record StoodIn (r col : List ℕ) (x : ℕ) (col′ : List ℕ) : Type 0 where

@@ -8,7 +8,7 @@ ghost use Rattle.rules.specs.Order.{checkSays, askSays};
 ghost use Rattle.rules.specs.Drawer.{findSays, whichSays};
 ghost use Rattle.rules.specs.Window.{windowSays, throughSays};
 ghost use Rattle.stayharrow.specs.Coded.{coded, codedFound, codedWhence, accepted};
-ghost use Rattle.stayharrow.specs.Exports.{Built, Filled, StoodIn, Appended};
+ghost use Rattle.stayharrow.specs.Exports.{Built, Filled, QuickAsked, StoodIn, Appended};
 
 mod codes;
 
@@ -42,6 +42,15 @@ pub extern "C" fn stayharrow_ask(bytes: &[u8], i: usize, j: usize) -> u64
     ensures { λ x. ⌜ x ≡ coded (askSays (now (bytes .entry)) i j) ⌝ }
 {
     codes::code(ask::ask(bytes, i, j))
+}
+
+// The same, quickly, from the record and the summary that was filled from it. With another summary some place
+// from i to j, or 9.
+#[no_mangle]
+pub extern "C" fn stayharrow_quick_ask(bytes: &[u8], summary: &[u16], i: usize, j: usize) -> u64
+    ensures { λ x. ⌜ QuickAsked (now (bytes .entry)) (now (summary .entry)) i j x ⌝ }
+{
+    codes::code(quick::quick_ask(bytes, summary, i, j))
 }
 
 // A column that has this record, in the first n numbers: n.

@@ -26,8 +26,8 @@ pub enum Kind {
     Falling,
     /// Rising, with one in fifty out of place.
     NearlySorted,
-    /// Falling runs of 4,096 entries, each run above the one before; asks begin just before a run, so that 4,096
-    /// openings stand between the two closings.
+    /// Small entries, each below the last, and behind each of them a falling run up to the next: 4,095 openings stand
+    /// between its closing and the run's first. Asks begin just before a run.
     Runs,
     /// Falling, with noise.
     FallingNoise,
@@ -66,9 +66,7 @@ impl Kind {
             Kind::Rising => column(random, Profile::Rising, ENTRIES),
             Kind::Falling => column(random, Profile::Falling, ENTRIES),
             Kind::NearlySorted => nearly_sorted(random),
-            Kind::Runs => (0..ENTRIES)
-                .map(|k| (k / RUN * ENTRIES + RUN - k % RUN) as u32)
-                .collect(),
+            Kind::Runs => (0..ENTRIES).map(in_runs).collect(),
             Kind::FallingNoise => column(random, Profile::FallingNoise, ENTRIES),
             Kind::ZeroFalling => column(random, Profile::ZeroThenFalling, ENTRIES),
         }
@@ -77,12 +75,21 @@ impl Kind {
     fn ask(self, random: &mut Random, stretch: usize) -> (usize, usize) {
         let most = ENTRIES - stretch;
         let i = match self {
-            Kind::Runs => (RUN * random.from_to(1, ENTRIES / RUN - 1) - 1).min(most),
+            Kind::Runs => (RUN * random.from_to(1, ENTRIES / RUN - 1) - random.below(8)).min(most),
             Kind::ZeroFalling if random.once_in(2) => 0,
             _ => random.from_to(0, most),
         };
         (i, i + stretch - 1)
     }
+}
+
+fn in_runs(k: usize) -> u32 {
+    let count = if k.is_multiple_of(RUN) {
+        (ENTRIES - k) / RUN
+    } else {
+        ENTRIES - k % RUN
+    };
+    count as u32
 }
 
 fn nearly_sorted(random: &mut Random) -> Vec<u32> {

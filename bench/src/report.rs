@@ -119,8 +119,9 @@ fn write_quick(page: &mut String, rows: &[quick::Row]) -> std::fmt::Result {
     )?;
     writeln!(
         page,
-        "The last three columns are worst cases: falling runs of 4,096 entries, every ask beginning just before a run; a \
-         falling column with noise; and 0, n, n-1, .., where half of the asks begin at entry 0.\n"
+        "The last three columns are worst cases: small entries with a falling run behind each, every ask beginning just \
+         before a run, so that 4,095 openings stand between two of its closings; a falling column with noise; and 0, n, \
+         n-1, .., where half of the asks begin at entry 0.\n"
     )
 }
 

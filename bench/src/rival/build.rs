@@ -17,25 +17,19 @@ pub fn build(column: &[u32], work: &mut [u16], out: &mut [u8]) -> u64 {
     };
     let record = &mut out[..length(n)];
     record[..4].copy_from_slice(&[0x52, 0x4D, n as u8, (n >> 8) as u8]);
-    let mut pen = Pen {
-        bits: 0,
-        held: (8 * (record.len() - 4) - 2 * n) as u32,
-        left: record.len() - 4,
-        out: &mut record[4..],
-    };
+    let mut pen = Pen::new(&mut record[4..], n);
     let (mut h, mut top) = (0, 0);
     for (i, &count) in column.iter().enumerate().rev() {
-        let before = h;
-        while h > 0 && top >= count {
-            h -= 1;
-            if h > 0 {
-                top = column[work[h - 1] as usize];
+        let mut stays = h;
+        if h > 0 && top >= count {
+            stays -= 1;
+            while stays > 0 && column[work[stays - 1] as usize] >= count {
+                stays -= 1;
             }
         }
-        pen.opens(before - h);
-        pen.closes();
-        work[h] = i as u16;
-        h += 1;
+        pen.closes_behind(h - stays);
+        work[stays] = i as u16;
+        h = stays + 1;
         top = count;
     }
     pen.opens(h);
@@ -44,51 +38,58 @@ pub fn build(column: &[u32], work: &mut [u16], out: &mut [u8]) -> u64 {
     length(n) as u64
 }
 
-/// Writes parentheses from the last to the first, eight bytes at a time.
+/// Writes parentheses from the last to the first, four bytes at a time. Fewer than 32 are held between calls, the
+/// earliest lowest.
 struct Pen<'a> {
     bits: u64,
-    held: u32,
+    held: usize,
     left: usize,
     out: &'a mut [u8],
 }
 
-impl Pen<'_> {
-    #[inline]
-    fn closes(&mut self) {
-        if self.held == 64 {
-            self.word();
+impl<'a> Pen<'a> {
+    /// The unused bits of the last byte are held as closings.
+    fn new(out: &'a mut [u8], n: usize) -> Pen<'a> {
+        Pen {
+            bits: 0,
+            held: 8 * out.len() - 2 * n,
+            left: out.len(),
+            out,
         }
-        self.bits <<= 1;
-        self.held += 1;
     }
 
+    /// So many openings, which stand behind the next closing, and that closing.
     #[inline]
-    fn opens(&mut self, count: usize) {
-        let mut more = count as u32;
-        while more > 64 - self.held {
-            let now = 64 - self.held;
-            more -= now;
-            self.shift(now);
-            self.word();
+    fn closes_behind(&mut self, openings: usize) {
+        if openings > 31 {
+            self.opens(openings - 31);
         }
-        self.shift(more);
+        let openings = openings.min(31);
+        self.bits = (((self.bits + 1) << openings) - 1) << 1;
+        self.held += openings + 1;
+        self.flush();
     }
 
-    /// So many openings, for which there is room.
-    #[inline]
-    fn shift(&mut self, count: u32) {
-        let moved = u128::from(self.bits) << count;
-        self.bits = moved as u64 | ((1u128 << count) - 1) as u64;
-        self.held += count;
+    fn opens(&mut self, mut openings: usize) {
+        while openings > 0 {
+            let now = openings.min(31);
+            self.bits = ((self.bits + 1) << now) - 1;
+            self.held += now;
+            openings -= now;
+            self.flush();
+        }
     }
 
     #[inline]
-    fn word(&mut self) {
-        let to = self.left;
-        self.left -= 8;
-        self.out[self.left..to].copy_from_slice(&self.bits.to_le_bytes());
-        self.bits = 0;
-        self.held = 0;
+    fn flush(&mut self) {
+        if self.held >= 32 {
+            self.held -= 32;
+            let word = (self.bits >> self.held) as u32;
+            self.bits &= (1 << self.held) - 1;
+            let to = self.left;
+            self.left = to.wrapping_sub(4);
+            self.out[self.left..to].copy_from_slice(&word.to_le_bytes());
+        }
     }
 
     fn end(self) {

@@ -48,6 +48,11 @@ mod refusal;
 mod sys;
 mod window;
 
+/// The page for host engineers: its example is run as a doctest.
+#[cfg(doctest)]
+#[doc = include_str!("../../docs/HOST.md")]
+struct Page;
+
 use core::ops::RangeInclusive;
 
 pub use drawer::{Drawer, DrawerBuf, LookRefused, Origin, Records, Seen};

@@ -24,6 +24,18 @@ use crate::{Record, Refusal, SUMMARY_LEN, entry, places};
 /// assert_eq!(indexed.ask(2..=4)?, 3);
 /// # Ok::<(), Refusal>(())
 /// ```
+///
+/// Lent numbers can't be changed as long as the index lives:
+///
+/// ```compile_fail,E0506
+/// # use stayharrow::{RecordBuf, Refusal};
+/// # let record = RecordBuf::build(&[4, 2, 4, 2, 9])?;
+/// let mut slots = [0; stayharrow::SUMMARY_LEN];
+/// let indexed = record.as_record().index_in(&mut slots)?;
+/// slots[0] = 7;
+/// assert_eq!(indexed.ask(2..=4)?, 3);
+/// # Ok::<(), Refusal>(())
+/// ```
 #[derive(Clone)]
 pub struct Indexed<'a> {
     record: Record<'a>,

@@ -365,7 +365,7 @@ fn long_column(rig: &mut Rig, random: &mut Random, _: u64) -> Trial {
 }
 
 /// A record with something changed, or no record at all.
-fn broken(random: &mut Random, most: usize) -> Vec<u8> {
+pub fn broken(random: &mut Random, most: usize) -> Vec<u8> {
     let n = columns::length(random, most);
     let mut record = match random.below(4) {
         0 => raw(random, n),
@@ -523,8 +523,8 @@ fn brim(random: &mut Random, drawer: &mut Vec<u8>) {
     drawer.resize(target, 0x52);
 }
 
-/// The same with something changed now and then.
-fn drawer_or_not(random: &mut Random) -> Vec<u8> {
+/// A drawer, with something changed now and then.
+pub fn drawer_or_not(random: &mut Random) -> Vec<u8> {
     let mut drawer = drawer(random);
     if drawer.is_empty() || random.once_in(2) {
         return drawer;

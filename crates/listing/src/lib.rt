@@ -50,6 +50,7 @@ fn line_at(drawer: &[u8], k: u8, at: usize, out: &mut [u8; 65600]) -> Step
     ensures { λ r. ⌜ Step·Writes (now (drawer .entry)) (Rest.Lines k at) (now (out .entry)) r (now (out .exit)) ⌝ }
 {
     let number = k as usize;
+    let count = number + 1;
     if drawer.len() <= at {
         return Step {
             length: lines::end(number, out),
@@ -59,7 +60,7 @@ fn line_at(drawer: &[u8], k: u8, at: usize, out: &mut [u8; 65600]) -> Step
     if 64 <= k {
         return Step {
             length: lines::refused(number, 14, out),
-            rest: Rest::End(number + 1),
+            rest: Rest::End(count),
         };
     }
     match checks::frame(&drawer[at..]) {
@@ -72,7 +73,7 @@ fn line_at(drawer: &[u8], k: u8, at: usize, out: &mut [u8; 65600]) -> Step
         }
         Answer::Refused(x) => Step {
             length: lines::refused(number, lines::number_of(x), out),
-            rest: Rest::End(number + 1),
+            rest: Rest::End(count),
         },
     }
 }

@@ -15,6 +15,9 @@ use borrow.Author.Needs.{needs}
 use Rattle.listing.proofs.line_at.Statement.{statement}
 use Rattle.listing.proofs.line_at.Tie as tie
 
+add-count : tie.Need-add-count
+add-count c = search needs
+
 end-requires : tie.Need-end-requires
 end-requires c κs = search needs
 
@@ -23,9 +26,6 @@ returns c = writes (left-end _ _ _ (c .before .before .if1 .taken)) (c .end .ens
 
 refused-requires : tie.Need-refused-requires
 refused-requires c κs = search needs
-
-add-t16 : tie.Need-add-t16
-add-t16 c = search needs
 
 returns-2 : tie.Need-returns-2
 returns-2 c = writes (left-full _ _ _ (c .before .before .before .if1 .left) (c .before .before .if2 .taken)) (c .refused .ensures)
@@ -85,9 +85,6 @@ number-of-requires c κs = search needs
 refused-requires-2 : tie.Need-refused-requires-2
 refused-requires-2 c κs = search needs
 
-add-t35 : tie.Need-add-t35
-add-t35 c = search needs
-
 returns-3 : tie.Need-returns-3
 returns-3 c =
     let start = c .before .before .before .before .before .before .before .before .before .before .before in
@@ -105,10 +102,10 @@ pub line-at-spec : {M : Type 1} → statement M
 line-at-spec =
     tie.close
     (tie.spec
+    add-count
     end-requires
     returns
     refused-requires
-    add-t16
     returns-2
     sub-frame
     part-frame-start
@@ -126,6 +123,5 @@ line-at-spec =
     enum-known-x
     number-of-requires
     refused-requires-2
-    add-t35
     returns-3
     returns-4)

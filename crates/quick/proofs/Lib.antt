@@ -5,3 +5,4 @@ pub mod Ours
 pub mod Standing
 pub mod Finishing
 pub mod Middle
+pub mod Joined

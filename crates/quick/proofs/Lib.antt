@@ -6,3 +6,5 @@ pub mod Standing
 pub mod Finishing
 pub mod Middle
 pub mod Joined
+pub mod Naming
+pub mod Framing

@@ -2,13 +2,11 @@
 use crate::shape;
 use crate::text;
 use answers::Answer;
-use answers::Refusal;
 ghost use mathlib.Core.Path.{_≡_};
 ghost use Rattle.rules.specs.Refusal.{answer};
 ghost use Rattle.rules.specs.Order.{checkSays};
 ghost use Rattle.rules.specs.Bytes.{parens};
 ghost use Rattle.rules.specs.Listing.{shapeLine, refusedLine, endLine, longLine, recordLine};
-ghost use Rattle.answers.specs.Said.{number as Said·number};
 ghost use Rattle.listing.specs.Wrote.{Wrote};
 
 // The last line.

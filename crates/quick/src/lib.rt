@@ -81,16 +81,12 @@ fn finish(rows: &[i8; 768], body: &[u8], t: &[u16], b: usize, j: usize, best: Sc
     if best.smallest <= low {
         return best;
     }
-    let y = stands(body, t, b, j);
-    if y == GROUND {
-        return best;
-    }
     let start = Scan {
         excess: GROUND + blocks::before(t, b),
         smallest: best.smallest,
         place: best.place,
     };
-    part::upto(start, rows, body, b, y, low)
+    part::upto(start, rows, body, b, j, low)
 }
 
 // Where a block between the first and the last stands lowest so far: the last one's part, and if that is not

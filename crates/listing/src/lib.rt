@@ -8,8 +8,7 @@ mod text;
 use answers::Answer;
 ghost use mathlib.Core.Path.{_≡_};
 ghost use lib.ListN.{length};
-ghost use Rattle.rules.specs.Listing.{listingLines};
-ghost use Rattle.listing.specs.Left.{linesLeft, Step·Writes};
+ghost use Rattle.listing.specs.Left.{Starts, Step·Writes};
 
 // What of a listing is still to be written.
 pub enum Rest {
@@ -37,7 +36,7 @@ pub fn buffer() -> [u8; 65600]
 
 // The whole listing of a drawer, nothing of it written yet.
 pub fn start(drawer: &[u8]) -> Rest
-    ensures { λ r. ⌜ linesLeft (now (drawer .entry)) r ≡ listingLines (now (drawer .entry)) ⌝ }
+    ensures { λ r. ⌜ Starts (now (drawer .entry)) r ⌝ }
 {
     if 65536 < drawer.len() {
         return Rest::Long;

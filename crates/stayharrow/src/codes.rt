@@ -5,33 +5,11 @@ ghost use mathlib.Core.Path.{_≡_};
 ghost use Rattle.answers.specs.Said.{number, said};
 ghost use Rattle.stayharrow.specs.Coded.{coded, accepted, refused};
 
-// The document's number of a refusal.
-fn number_of(x: Refusal) -> u64
-    ensures { λ r. ⌜ r ≡ number x ⌝ }
-{
-    match x {
-        Refusal::TooManyEntries => 1,
-        Refusal::OutputShort => 2,
-        Refusal::WorkShort => 3,
-        Refusal::Unmarked => 4,
-        Refusal::CutShort => 5,
-        Refusal::UnusedBit => 6,
-        Refusal::Unbalanced => 7,
-        Refusal::OutOfRange => 8,
-        Refusal::Foreign => 9,
-        Refusal::NoRecord => 10,
-        Refusal::BytesAfter => 11,
-        Refusal::DrawerLong => 12,
-        Refusal::UsedWrong => 13,
-        Refusal::DrawerFull => 14,
-    }
-}
-
 // A refusal: bit 63 beside its number.
 pub fn refusal(x: Refusal) -> u64
     ensures { λ r. ⌜ r ≡ refused 0 0 (number x) ⌝ }
 {
-    9223372036854775808 + number_of(x)
+    9223372036854775808 + (answers::number_of(x) as u64)
 }
 
 // The same of the shared drawer: bit 40 too.

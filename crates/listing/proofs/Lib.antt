@@ -1,0 +1,5 @@
+pub mod Writing
+pub mod Digits
+pub mod Parens
+pub mod Deepest
+pub mod Onward

@@ -1,0 +1,82 @@
+// Whole lines, from the start of the buffer. Each answers its length.
+use crate::shape;
+use crate::text;
+use answers::Answer;
+use answers::Refusal;
+ghost use mathlib.Core.Path.{_≡_};
+ghost use Rattle.rules.specs.Refusal.{answer};
+ghost use Rattle.rules.specs.Order.{checkSays};
+ghost use Rattle.rules.specs.Bytes.{parens};
+ghost use Rattle.rules.specs.Listing.{shapeLine, refusedLine, endLine, longLine, recordLine};
+ghost use Rattle.answers.specs.Said.{number as Said·number};
+ghost use Rattle.listing.specs.Wrote.{Wrote};
+
+// The document's number of a refusal.
+pub fn number_of(x: Refusal) -> usize
+    ensures { λ r. ⌜ r ≡ Said·number x ⌝ }
+{
+    match x {
+        Refusal::TooManyEntries => 1,
+        Refusal::OutputShort => 2,
+        Refusal::WorkShort => 3,
+        Refusal::Unmarked => 4,
+        Refusal::CutShort => 5,
+        Refusal::UnusedBit => 6,
+        Refusal::Unbalanced => 7,
+        Refusal::OutOfRange => 8,
+        Refusal::Foreign => 9,
+        Refusal::NoRecord => 10,
+        Refusal::BytesAfter => 11,
+        Refusal::DrawerLong => 12,
+        Refusal::UsedWrong => 13,
+        Refusal::DrawerFull => 14,
+    }
+}
+
+// The last line.
+pub fn end(count: usize, out: &mut [u8; 65600]) -> usize
+    ensures { λ r. ⌜ Wrote (now (out .entry)) 0 (endLine count) r (now (out .exit)) ⌝ }
+{
+    let a = text::word(b"end ", 0, out);
+    let b = text::number(count, a, out);
+    text::word(b"\n", b, out)
+}
+
+// The only line of a drawer that is too long.
+pub fn long(out: &mut [u8; 65600]) -> usize
+    ensures { λ r. ⌜ Wrote (now (out .entry)) 0 longLine r (now (out .exit)) ⌝ }
+{
+    text::word(b"refused 12\n", 0, out)
+}
+
+// The line of record k, refused with x.
+pub fn refused(k: usize, x: usize, out: &mut [u8; 65600]) -> usize
+    ensures { λ r. ⌜ Wrote (now (out .entry)) 0 (refusedLine k x) r (now (out .exit)) ⌝ }
+{
+    let a = text::field(k, 0, out);
+    let b = text::word(b"refused ", a, out);
+    let c = text::number(x, b, out);
+    text::word(b"\n", c, out)
+}
+
+// The line of record k, which passes its check and has n entries.
+fn accepted(k: usize, bytes: &[u8], n: usize, out: &mut [u8; 65600]) -> usize
+    requires { ⌜ checkSays (now bytes) ≡ answer n ⌝ }
+    ensures { λ r. ⌜ Wrote (now (out .entry)) 0 (shapeLine k n (parens n (now (bytes .entry)))) r (now (out .exit)) ⌝ }
+{
+    let a = text::field(k, 0, out);
+    let b = text::field(n, a, out);
+    let c = text::field(shape::greatest(bytes, n), b, out);
+    let d = shape::shown(bytes, n, c, out);
+    text::word(b"\n", d, out)
+}
+
+// The line of record k, by what the record check says of it.
+pub fn judged(k: usize, bytes: &[u8], out: &mut [u8; 65600]) -> usize
+    ensures { λ r. ⌜ Wrote (now (out .entry)) 0 (recordLine k (now (bytes .entry))) r (now (out .exit)) ⌝ }
+{
+    match checks::check(bytes) {
+        Answer::Is(n) => accepted(k, bytes, n, out),
+        Answer::Refused(x) => refused(k, number_of(x), out),
+    }
+}

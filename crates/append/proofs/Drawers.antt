@@ -7,7 +7,6 @@ use mathlib.Core.List.{List, _++_, append-assoc}
 use borrow.Author.Tests.{le-ltb}
 use lib.ListN.{length, take, drop, length-append, length-take, length-drop}
 use lib.Seq.{take-all, take-at, drop-at, drop-drop, length-take-le, take-append-le, drop-append-le}
-use Rattle.rules.specs.Column.{Alike}
 use Rattle.rules.specs.Shape.{shape}
 use Rattle.rules.specs.Bytes.{most, recordLength, recordOf, columnRecord}
 use Rattle.rules.specs.Refusal.{answer}
@@ -16,7 +15,7 @@ use Rattle.rules.specs.Drawer.{mostBytes, mostRecords, Found, found, lost, find
 use Rattle.rules.proofs.Checked.{framed-says}
 use Rattle.rules.proofs.Record.{record-length, record-entries}
 use Rattle.rules.proofs.Drawer.{found-within, find-seek, seek-before, seek-behind, Found-in, look-own, look-found, Records, records-are, records-behind, records-count, Ready, append-builds, append-answers, build-answers}
-use Rattle.theory.proofs.Agree.{alike-shapes}
+use Rattle.theory.proofs.Agree.{alike-record}
 use Rattle.answers.proofs.Said.{said-once}
 use Rattle.drawer.proofs.Said.{found-once, whence-once}
 use Rattle.append.specs.Drawers.{Appended, Appending, Agrees, Looking, OwnFirst, AppendPrivate, DrawerOnce}
@@ -198,10 +197,6 @@ same-rules : (b : List ℕ) (u : ℕ) (c d w : List ℕ) → length c ≡ length
     → (appendSays b u c (length w) ≡ appendSays b u d (length w)) × (bufferAfter b u c w ≡ bufferAfter b u d w) × (workAfterAppend b u c w ≡ workAfterAppend b u d w)
 unfolding appendSays bufferAfter workAfterAppend buildSays outputAfter workAfter
 same-rules b u c d w len rec = (rw len, rw (len, rec), rw len)
-
-alike-record : (c d : List ℕ) → length c ≡ length d → Alike (length c) c d → columnRecord c ≡ columnRecord d
-unfolding columnRecord
-alike-record c d len alike = rw (len, alike-shapes c d len alike)
 
 pub append-private : AppendPrivate
 append-private =

@@ -12,8 +12,8 @@ use Rattle.rules.specs.Excess.{closings, closingPlace, excess}
 use Rattle.rules.specs.Summary.{none, blocksFor, closingBlock}
 use Rattle.rules.proofs.Excess.{counts-length}
 use Rattle.rules.proofs.ClosingPlace.{closing-within, closing-among, closing-order}
-use Rattle.rules.proofs.Summary.{filled-at, slot-end, slot-closing, end-stands, closing-block, no-closing}
-use Rattle.rules.proofs.Blocks.{closing-behind, excess-closings, end-closings}
+use Rattle.rules.proofs.Summary.{filled-at, slot-end, slot-closing, end-stands, end-closings, closing-block, no-closing}
+use Rattle.rules.proofs.Blocks.{closing-behind, excess-closings}
 use Rattle.blocks.specs.Search.{Own, Passed, Stops, Last, Before}
 
 module _ {t : List ℕ} {s : List Paren} {n : ℕ} (own : Own t s n) where
@@ -23,7 +23,7 @@ module _ {t : List ℕ} {s : List Paren} {n : ℕ} (own : Own t s n) where
   end-at : (k : ℕ) → k + 1 < blocksFor n → getD t k 0 + 2 * closings (take (256 * (k + 1)) s) ≡ 256 * (k + 1)
   end-at k h =
       rw (filled-at t s (own .filled) k (omega (arith, own .few)), slot-end s k (omega (arith, own .few)))
-      (end-closings s n k (own .long) (own .balance) h)
+      (omega (arith, end-closings s n (own .long) (own .balance) k (omega arith)))
 
   slot-at : (q : ℕ) → q < 128 → getD t (768 + q) 0 ≡ closingBlock s q
   slot-at q h = filled-at t s (own .filled) (768 + q) (omega arith) ∙ slot-closing s q

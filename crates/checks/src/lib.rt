@@ -8,6 +8,7 @@ ghost use lib.ListN.{length};
 ghost use Rattle.rules.specs.Excess.{balanced};
 ghost use Rattle.rules.specs.Bytes.{most, recordLength, entries, parens};
 ghost use Rattle.rules.specs.Order.{frameSays, checkSays};
+ghost use Rattle.scan.specs.Rows.{rows};
 ghost use Rattle.answers.specs.Said.{said};
 ghost use Rattle.checks.specs.Inside.{Whole, insideSays};
 
@@ -47,11 +48,10 @@ pub fn frame(bytes: &[u8]) -> Answer
 
 // Whether the parentheses of a whole record are balanced: each byte is read once through the table.
 // The unused bits of the last byte are read as openings, which are never the smallest.
-fn in_balance(bytes: &[u8], n: usize) -> bool
-    requires { ⌜ Whole (now bytes) n × (0 < n) ⌝ }
+fn in_balance(t: &[i8; 768], bytes: &[u8], n: usize) -> bool
+    requires { ⌜ (now t ≡ rows) × Whole (now bytes) n × (0 < n) ⌝ }
     ensures { λ r. ⌜ r ≡ balanced (parens n (now (bytes .entry))) ⌝ }
 {
-    let t = scan::table();
     let last = bytes.len() - 1;
     let spare = 8 * ((n + 3) / 4) - 2 * n;
     let start = Scan {
@@ -59,9 +59,9 @@ fn in_balance(bytes: &[u8], n: usize) -> bool
         smallest: GROUND,
         place: 0,
     };
-    let front = start.bytes(&t, &bytes[4..last], 0);
+    let front = start.bytes(t, &bytes[4..last], 0);
     let tail = scan::mask::opened(bytes[last], 8 - (spare as u32));
-    let end = front.byte(&t, 8 * (last - 4), tail);
+    let end = front.byte(t, 8 * (last - 4), tail);
     if end.smallest < GROUND {
         return false;
     }
@@ -69,8 +69,8 @@ fn in_balance(bytes: &[u8], n: usize) -> bool
 }
 
 // 11, 6 and 7 of a framed record of n entries.
-fn inside(bytes: &[u8], n: usize) -> Answer
-    requires { ⌜ (n ≤ most) × (recordLength n ≤ length (now bytes)) ⌝ }
+fn inside(t: &[i8; 768], bytes: &[u8], n: usize) -> Answer
+    requires { ⌜ (now t ≡ rows) × (n ≤ most) × (recordLength n ≤ length (now bytes)) ⌝ }
     ensures { λ r. ⌜ said r ≡ insideSays (now (bytes .entry)) n ⌝ }
 {
     if 4 + (n + 3) / 4 < bytes.len() {
@@ -84,18 +84,27 @@ fn inside(bytes: &[u8], n: usize) -> Answer
     if scan::mask::opens_from(last, 8 - (spare as u32)) {
         return Answer::Refused(Refusal::UnusedBit);
     }
-    if in_balance(bytes, n) {
+    if in_balance(t, bytes, n) {
         return Answer::Is(n);
     }
     Answer::Refused(Refusal::Unbalanced)
+}
+
+// The record check through a table that is lent: who goes on reading the record takes the table once.
+pub fn check_through(t: &[i8; 768], bytes: &[u8]) -> Answer
+    requires { ⌜ now t ≡ rows ⌝ }
+    ensures { λ r. ⌜ said r ≡ checkSays (now (bytes .entry)) ⌝ }
+{
+    match frame(bytes) {
+        Answer::Is(n) => inside(t, bytes, n),
+        Answer::Refused(r) => Answer::Refused(r),
+    }
 }
 
 // Record check: frame, 11, 6, 7. It answers n.
 pub fn check(bytes: &[u8]) -> Answer
     ensures { λ r. ⌜ said r ≡ checkSays (now (bytes .entry)) ⌝ }
 {
-    match frame(bytes) {
-        Answer::Is(n) => inside(bytes, n),
-        Answer::Refused(r) => Answer::Refused(r),
-    }
+    let t = scan::table();
+    check_through(&t, bytes)
 }

@@ -71,7 +71,7 @@ fn line_at(drawer: &[u8], k: u8, at: usize, out: &mut [u8; 65600]) -> Step
             }
         }
         Answer::Refused(x) => Step {
-            length: lines::refused(number, lines::number_of(x), out),
+            length: lines::refused(number, answers::number_of(x), out),
             rest: Rest::End(count),
         },
     }

@@ -10,11 +10,14 @@ use Rattle.rules.specs.Column.{least}
 use Rattle.rules.specs.Shape.{shape}
 use Rattle.rules.specs.Excess.{closings}
 use Rattle.rules.specs.StandIn.{standIn}
-use Rattle.rules.specs.Bytes.{Bytes, most, recordLength, recordOf, columnRecord, parens}
+use Rattle.rules.specs.Bytes.{Bytes, most, recordLength, recordOf, columnRecord, entries, parens}
 use Rattle.rules.specs.Refusal.{answer}
 use Rattle.rules.specs.Order.{buildSays, outputAfter, checkSays, askSays, standInSays, columnAfter}
+use Rattle.rules.specs.Summary.{slots, summaryOf, fillSays, summaryAfter}
 use Rattle.rules.proofs.Excess.{counts-length}
 use Rattle.rules.proofs.StandIn.{stand-in-length}
+use Rattle.rules.proofs.Checked.{says-checked}
+use Rattle.rules.proofs.Summary.{summary-length}
 use Rattle.rules.proofs.Record.{Accepted, record-length, record-parens, record-accepted, accepted-record}
 use Rattle.theory.proofs.Written.{shape-length, shape-balanced}
 use Rattle.theory.proofs.StandInTree.{stand-in-again}
@@ -48,6 +51,16 @@ unfolding askSays
 asked c few i j h l =
     rw (column-accepted c few, le-ltb j i h, lt-ltb j (length c) l, column-parens c) (ap answer (asked-least c i j h l))
 
+fills : (r t : List ℕ) (n : ℕ) → checkSays r ≡ answer n → slots ≤ length t → fillSays r (length t) ≡ answer n
+unfolding fillSays
+fills r t n says room = rw (says, le-ltb (length t) slots room)
+
+filled : (r t : List ℕ) (n : ℕ) → checkSays r ≡ answer n → slots ≤ length t → take slots (summaryAfter r t) ≡ summaryOf (parens n r)
+unfolding summaryAfter
+filled r t n says room =
+    let head : entries r ≡ n = says-checked r n says .framed .says in
+    rw (fills r t n says room, head) (take-at (summaryOf (parens n r)) (drop slots t) slots (summary-length (parens n r)))
+
 -- a balanced record's closings are its entries
 pub closings-entries : (r : List ℕ) (n : ℕ) → Accepted r n → closings (parens n r) ≡ n
 closings-entries r n a =
@@ -74,5 +87,8 @@ demand2 =
     record {
       built = λ c w o few work room. (accepted c w o few work room, written c w o few work room);
       asked = asked;
+      filled = λ r t n says room. (fills r t n says room, filled r t n says room);
+      quick-as-plain = λ r t n says own i j o may. may .right n says own;
+      asked-quickly = λ c t few own i j h l o may. may .right (length c) (column-accepted c few) own ∙ asked c few i j h l;
       stood-in = λ r col n bytes says room. (stands-in r col n says room, stood-in r col n bytes says room);
     }

@@ -4,26 +4,23 @@ use Prim.Native.Nat.{ℕ, _≤_}
 use native.Mathlib.Omega.{arith}
 use mathlib.Core.List.{List}
 use lib.ListN.{length, take, getD}
+use Rattle.rules.specs.Column.{Alike}
 use Rattle.rules.specs.Shape.{shape}
 use Rattle.rules.specs.Bytes.{Bytes, most, columnRecord, parens}
 use Rattle.rules.specs.Refusal.{answer}
 use Rattle.rules.specs.Order.{buildSays, outputAfter, workAfter, checkSays}
 use Rattle.rules.proofs.Record.{accepted-record}
-use Rattle.theory.proofs.Agree.{alike-shapes, shapes-alike}
+use Rattle.theory.proofs.Agree.{alike-record, shapes-alike}
 use Rattle.theory.proofs.StandInTree.{balanced-column}
 use Rattle.answers.proofs.Said.{said-once}
-use Rattle.promises.specs.Demand3.{Column, SamePlaces, Demand3, BuildPrivate}
+use Rattle.promises.specs.Demand3.{Column, Demand3, BuildPrivate}
 use Rattle.promises.proofs.Demand2.{column-accepted, column-parens, closings-entries}
 
--- the same places give the same shape, and so the same record
-places-record : (c d : List ℕ) → length c ≡ length d → SamePlaces c d → columnRecord c ≡ columnRecord d
-unfolding columnRecord
-places-record c d len same = rw (len, alike-shapes c d len (record { same = same }))
-
-record-places : (c d : List ℕ) → length c ≡ length d → columnRecord c ≡ columnRecord d → SamePlaces c d
-record-places c d len e =
+-- the same record has the same parentheses, and so the same places
+record-alike : (c d : List ℕ) → length c ≡ length d → columnRecord c ≡ columnRecord d → Alike (length c) c d
+record-alike c d len e =
     let f : shape c ≡ shape d = sym (column-parens c) ∙ ap (parens (length c)) e ∙ ap (λ (n : ℕ). parens n (columnRecord d)) len ∙ column-parens d in
-    shapes-alike c d f .same
+    shapes-alike c d f
 
 accepts : (r : List ℕ) → Bytes r → (n : ℕ) → checkSays r ≡ answer n → (c : List ℕ) × Column c × (r ≡ columnRecord c)
 unfolding columnRecord
@@ -39,7 +36,7 @@ accepts r bytes n says =
 pub demand3 : Demand3
 demand3 =
     record {
-      same-records = λ c d _ _ len. (record-places c d len, places-record c d len);
+      same-records = λ c d _ _ len. (record-alike c d len, alike-record c d len);
       accepts = λ r bytes. (λ (n, says). accepts r bytes n says, λ (c, col, e). (length c, ap checkSays e ∙ column-accepted c (col .few)));
     }
 
@@ -55,7 +52,7 @@ pub build-private : BuildPrivate
 build-private =
     record {
       private = λ c d w o len same a b w₁ o₁ w₂ o₂ one two.
-          let (says, output, work) = same-rules c d w o len (places-record c d len same) in (
+          let (says, output, work) = same-rules c d w o len (alike-record c d len same) in (
             said-once a b (one .says ∙ says ∙ sym (two .says)),
             one .output ∙ output ∙ sym (two .output),
             ap (take (length c)) (one .work ∙ work ∙ sym (two .work)),

@@ -1,7 +1,11 @@
 pub mod Beats
 pub mod Parts
 pub mod Closings
+pub mod Reaching
 pub mod Ours
 pub mod Standing
 pub mod Finishing
 pub mod Middle
+pub mod Joined
+pub mod Naming
+pub mod Framing

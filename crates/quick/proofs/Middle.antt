@@ -9,7 +9,7 @@ use lib.ListN.{getD}
 use Rattle.rules.specs.Excess.{entryBetween}
 use Rattle.rules.specs.Refusal.{Outcome, answer}
 use Rattle.tree.specs.declared.Best.{Best}
-use Rattle.tree.specs.Tree.{leaf, Held, Descended}
+use Rattle.tree.specs.Tree.{leaf, Held, Between, Descended}
 use Rattle.tree.proofs.Down.{Leftmost, comes-down}
 use Rattle.scan.specs.declared.Scan.{Scan}
 use Rattle.blocks.specs.Search.{Before}
@@ -20,8 +20,12 @@ use Rattle.quick.proofs.Beats.{split, low-later}
 use Rattle.quick.proofs.Ours.{level-own, leaf-bounds, leaf-there, halves-own, closing-low, counted, between}
 
 -- the slot of a leaf
-leaf-slot : (t : List ℕ) (x : ℕ) → leaf t x ≡ getD t (512 + x) 0
+pub leaf-slot : (t : List ℕ) (x : ℕ) → leaf t x ≡ getD t (512 + x) 0
 leaf-slot t x = let e : 256 + (256 + x) ≡ 512 + x = omega arith in ap (λ (k : ℕ). getD t k 0) e
+
+-- the number of the lowest node between, or one above any
+pub best-low : {t : List ℕ} {a b : ℕ} {best : Best} → a < b → Between t a b best → best .low ≤ 65536
+best-low {t} {a} {b} {best} h held = split (a + 1) b (λ u. omega (arith, held .some u .bound)) (λ u. omega (arith, held .none (omega arith)))
 
 module _ (body t : List ℕ) (n a b i j : ℕ) (asks : Asks body t n a b i j) (few : b ≤ 255) where
   low-j : closingIn body n j < 2 * n
@@ -38,15 +42,15 @@ module _ (body t : List ℕ) (n a b i j : ℕ) (asks : Asks body t n a b i j) (f
       let w = between body t n (asks .ours) i j (asks .order) (asks .among) st low in
       names .right (entryBetween (parensIn body n) i j) (omega arith) c (w .0) (w .1)
 
+  -- no block between is lower
+  pub middle : (best : Best) → Held t (257 + a) (256 + b) best → (p : ℕ) → 256 * a + 256 ≤ p → p < 256 * b → ground + best .low ≤ height body p
+  middle best held p g h =
+      let l = low-j in
+      let e = asks .last in
+      omega (arith, held .lowest (halves-own body t n (asks .ours)) (p / 256) (omega arith) (omega arith), leaf-slot t (p / 256), leaf-bounds body t n (asks .ours) (p / 256) p (omega arith) (omega arith) (omega arith) (omega arith))
+
   module _ (best : Best) (held : Held t (257 + a) (256 + b) best) (order : a + 1 < b)
       (first : (p : ℕ) → closingIn body n i ≤ p → p < 256 * a + 256 → ground + best .low < height body p) where
-    -- no block between is lower
-    pub middle : (p : ℕ) → 256 * a + 256 ≤ p → p < 256 * b → ground + best .low ≤ height body p
-    middle p g h =
-        let l = low-j in
-        let e = asks .last in
-        omega (arith, held .lowest (halves-own body t n (asks .ours)) (p / 256) (omega arith) (omega arith), leaf-slot t (p / 256), leaf-bounds body t n (asks .ours) (p / 256) p (omega arith) (omega arith) (omega arith) (omega arith))
-
     -- the last part is lower
     pub last-wins : (end : Scan) → Finishes body t b j (record { excess = 0; smallest = 131072 + best .low; place = 0 }) end → end .smallest < 131072 + best .low
         → Lowest (height body) (closingIn body n i) (closingIn body n j + 1) end
@@ -58,7 +62,7 @@ module _ (body t : List ℕ) (n a b i j : ℕ) (asks : Asks body t n a b i j) (f
         (λ p g h. parted p g h) (λ p g h. absurd (omega arith))
       where
         parted : (p : ℕ) → closingIn body n i ≤ p → p < 256 * b → end .smallest < height body p
-        parted p g h = either (λ u. omega (arith, first p g u)) (λ u. omega (arith, middle p u h))
+        parted p g h = either (λ u. omega (arith, first p g u)) (λ u. omega (arith, middle best held p u h))
           where
             either : (p < 256 * a + 256 → end .smallest < height body p) → (256 * a + 256 ≤ p → end .smallest < height body p) → end .smallest < height body p
             either = split p (256 * a + 256)
@@ -125,5 +129,5 @@ module _ (body t : List ℕ) (n a b i j : ℕ) (asks : Asks body t n a b i j) (f
           behind-it : inner .smallest ≡ 131072 + best .low → (p : ℕ) → 256 * k + 256 ≤ p → p < closingIn body n j + 1 → inner .smallest ≤ height body p
           behind-it is p g h =
               let o = most .after in
-              split p (256 * b) (λ u. omega (arith, middle p (omega arith) u))
+              split p (256 * b) (λ u. omega (arith, middle best held p (omega arith) u))
               (λ u. omega (arith, fin .right n (asks .ours) (asks .among) (asks .last) (omega arith) .stands l .1 p u h))

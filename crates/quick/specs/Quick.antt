@@ -81,11 +81,16 @@ pub record Apart (body t : List ℕ) (a b x e i j : ℕ) (o : Outcome) : Type 0 
   pub allowed : Allowed i j o
   pub right : (n : ℕ) → Asks body t n a b i j → x ≡ closingIn body n i → e ≡ height body x → o ≡ answer (entryBetween (parensIn body n) i j)
 
--- by the two blocks that the summary names
-pub record Found (body t : List ℕ) (m i j : ℕ) (o : Outcome) : Type 0 where
+-- closing i stands in block a and closing j in block b
+pub record Spans (body t : List ℕ) (a b i j : ℕ) (o : Outcome) : Type 0 where
   pub allowed : Allowed i j o
-  pub named : strange t m i ⊎ strange t m j → o ≡ refusal 9
-  pub right : (n : ℕ) → Ours body t n → m ≡ n → o ≡ answer (entryBetween (parensIn body n) i j)
+  pub right : (n : ℕ) → Asks body t n a b i j → o ≡ answer (entryBetween (parensIn body n) i j)
+
+-- by the two blocks that the summary names
+pub record Found (body t : List ℕ) (n i j : ℕ) (o : Outcome) : Type 0 where
+  pub allowed : Allowed i j o
+  pub named : strange t n i ⊎ strange t n j → o ≡ refusal 9
+  pub right : Ours body t n → o ≡ answer (entryBetween (parensIn body n) i j)
 
 -- behind the frame
 pub record Framed (r t : List ℕ) (n i j : ℕ) (o : Outcome) : Type 0 where

@@ -1,7 +1,7 @@
 -- Closings and blocks: a closing of a whole sequence as one of a part of it, and how many closings there are before a block.
 -- The laws of the first half hold of any sequence of parentheses. Assumes nothing.
 use mathlib.Core.Path.{_≡_, ap, sym, _∙_}
-use Prim.Native.Nat.{ℕ, suc, min, _+_, _-_, _*_, _/_, _≤_, _<_}
+use Prim.Native.Nat.{ℕ, suc, _+_, _-_, _*_, _/_, _≤_, _<_}
 use native.Mathlib.Decide.{decLt}
 use native.Mathlib.Omega.{arith}
 use mathlib.Core.List.{List, _++_}
@@ -9,11 +9,9 @@ use lib.ListN.{length, take, drop, take-append-drop, length-take, length-drop}
 use lib.Seq.{take-add, length-take-le}
 use Rattle.rules.specs.Shape.{Paren}
 use Rattle.rules.specs.Excess.{closings, closingPlace, excess, Balanced}
-use Rattle.rules.specs.Summary.{blocksFor, blockEnd}
 use Rattle.rules.proofs.Excess.{closings-append, counts-length}
 use Rattle.rules.proofs.ClosingPlace.{closings-more, closing-stands}
 use Rattle.rules.proofs.Parts.{closing-first, closing-second}
-use Rattle.rules.proofs.Summary.{end-stands}
 
 -- ---- a closing and a place
 
@@ -68,10 +66,3 @@ unfolding excess
 excess-closings s b balance h l =
     let e : b - 1 + 1 ≡ b = omega arith in
     rw e (omega (arith, balance .above b, counts-length (take b s), length-take-le b s l))
-
--- the same up to the end of a block that is not the last
-pub end-closings : (s : List Paren) (n k : ℕ) → length s ≡ 2 * n → Balanced s → k + 1 < blocksFor n
-    → blockEnd s k + 2 * closings (take (256 * (k + 1)) s) ≡ 256 * (k + 1)
-end-closings s n k long balance h =
-    let e : min (256 * (k + 1)) (2 * n) - 1 ≡ 256 * (k + 1) - 1 = omega arith in
-    rw (end-stands s n long k (omega arith), e) (excess-closings s (256 * (k + 1)) balance (omega arith) (omega arith))

@@ -19,13 +19,14 @@ const GROUND: usize = 65536;
 pub fn fill(bytes: &[u8], summary: &mut [u16]) -> Answer
     ensures { λ r. ⌜ Fills (now (bytes .entry)) (now (summary .entry)) r (now (summary .exit)) ⌝ }
 {
-    match checks::check(bytes) {
+    let t = scan::table();
+    match checks::check_through(&t, bytes) {
         Answer::Is(n) => {
             if summary.len() < 896 {
                 return Answer::Refused(Refusal::WorkShort);
             }
             blank(summary);
-            blocks(bytes, n, summary);
+            blocks(&t, bytes, n, summary);
             tree(summary);
             Answer::Is(n)
         }
@@ -109,14 +110,13 @@ fn last(t: &[i8; 768], bytes: &[u8], n: usize, excess: usize, summary: &mut [u16
 }
 
 // All slots but the tree's inner nodes: one pass over the bytes.
-fn blocks(bytes: &[u8], n: usize, summary: &mut [u16])
-    requires { ⌜ Taken (now bytes) n (now summary) ⌝ }
+fn blocks(t: &[i8; 768], bytes: &[u8], n: usize, summary: &mut [u16])
+    requires { ⌜ (now t ≡ rows) × Taken (now bytes) n (now summary) ⌝ }
     ensures { λ _. ⌜ Lays (parens n (now (bytes .entry))) 0 (blocksFor n) (now (summary .entry)) (now (summary .exit)) ⌝ }
 {
-    let t = scan::table();
-    let excess = whole(&t, bytes, n, summary);
+    let excess = whole(t, bytes, n, summary);
     if 128 * (n / 128) < n {
-        last(&t, bytes, n, excess, summary);
+        last(t, bytes, n, excess, summary);
     }
 }
 

@@ -11,6 +11,7 @@ use lib.Seq.{take-append-seam, drop-append-add}
 use Rattle.rules.specs.Column.{least, Alike}
 use Rattle.rules.specs.Shape.{shape}
 use Rattle.rules.specs.Excess.{closings, entryBetween}
+use Rattle.rules.specs.Bytes.{columnRecord}
 use Rattle.rules.specs.StandIn.{standIn}
 use Rattle.rules.proofs.Least.{least-take, least-drop, Lowest, lowest-least}
 use Rattle.rules.proofs.Shape.{shape-none, shape-some}
@@ -125,5 +126,10 @@ alike-written (node l m r) d o e h =
     alike-written r (drop (length L + 1) d) (o .2) (simp length-drop (omega arith)) (alike-part-after L m R d h) in
     rw (shape-some d (omega arith), root, before, after)
 
-pub alike-shapes : (c d : List ℕ) → length c ≡ length d → Alike (length c) c d → shape c ≡ shape d
+alike-shapes : (c d : List ℕ) → length c ≡ length d → Alike (length c) c d → shape c ≡ shape d
 alike-shapes c d e h = shape-tree c ∙ alike-written (treeOf c) d (tree-ordered c) (rw column-tree e) (rw column-tree h)
+
+-- and so the same record
+pub alike-record : (c d : List ℕ) → length c ≡ length d → Alike (length c) c d → columnRecord c ≡ columnRecord d
+unfolding columnRecord
+alike-record c d len alike = rw (len, alike-shapes c d len alike)

@@ -35,7 +35,7 @@ entry-closings r n e =
     omega (arith, c .balance .last, counts-length (parens n r), parens-length r n (c .framed .long))
 
 -- what it says lies between what it was asked
-asked-within : (r : List ℕ) (i j p : ℕ) → askSays r i j ≡ answer p → (i ≤ p) × (p ≤ j)
+pub asked-within : (r : List ℕ) (i j p : ℕ) → askSays r i j ≡ answer p → (i ≤ p) × (p ≤ j)
 unfolding askSays
 asked-within r i j p e =
     let (n, says, on) = went-on (checkSays r) e in

@@ -7,9 +7,6 @@ use borrow.Author.Needs.{needs}
 use Rattle.checks.proofs.in_balance.Statement.{statement}
 use Rattle.checks.proofs.in_balance.Tie as tie
 
-table-requires : tie.Need-table-requires
-table-requires c κs = search needs
-
 sub-last : tie.Need-sub-last
 sub-last c = search needs
 
@@ -57,27 +54,26 @@ mul-byte c = search needs
 
 byte-requires : tie.Need-byte-requires
 byte-requires c κs =
-    let start = c .before .before .before .before .before .before .before .before in
-    (c .before .before .before .before .before .before .table .ensures, ready-last (start .args .bytes .now) (start .args .n) (start .pre .0) (start .pre .1) (c .before .before .before .bytes .result) (c .before .before .before .bytes .ensures), omega arith)
+    let start = c .before .before .before .before .before in
+    (start .pre .0, ready-last (start .args .bytes .now) (start .args .n) (start .pre .1) (start .pre .2) (c .before .before .bytes .result) (c .before .before .bytes .ensures), omega arith)
 
 returns : tie.Need-returns
 returns c =
-    let start = c .before .before .before .before .before .before .before .before .before .before .before in
-    sym (through (start .args .bytes .now) (start .args .n) (start .pre .0) (start .pre .1) (c .before .before .before .before .before .before .bytes .result) (c .before .before .byte .result) (c .before .before .before .before .opened .result) (c .before .before .before .before .before .before .bytes .ensures) (c .before .before .before .before .opened .ensures) (c .before .before .byte .ensures) .0 (c .if1 .taken))
+    let start = c .before .before .before .before .before .before .before .before in
+    sym (through (start .args .bytes .now) (start .args .n) (start .pre .1) (start .pre .2) (c .before .before .before .before .before .bytes .result) (c .before .before .byte .result) (c .before .before .before .opened .result) (c .before .before .before .before .before .bytes .ensures) (c .before .before .before .opened .ensures) (c .before .before .byte .ensures) .0 (c .if1 .taken))
 
 add-result : tie.Need-add-result
 add-result c = search needs
 
 returns-2 : tie.Need-returns-2
 returns-2 c =
-    let start = c .before .before .before .before .before .before .before .before .before .before .before .before in
-    sym (through (start .args .bytes .now) (start .args .n) (start .pre .0) (start .pre .1) (c .before .before .before .before .before .before .before .bytes .result) (c .before .before .before .byte .result) (c .before .before .before .before .before .opened .result) (c .before .before .before .before .before .before .before .bytes .ensures) (c .before .before .before .before .before .opened .ensures) (c .before .before .before .byte .ensures) .1 (c .before .if1 .left))
+    let start = c .before .before .before .before .before .before .before .before .before in
+    sym (through (start .args .bytes .now) (start .args .n) (start .pre .1) (start .pre .2) (c .before .before .before .before .before .before .bytes .result) (c .before .before .before .byte .result) (c .before .before .before .before .opened .result) (c .before .before .before .before .before .before .bytes .ensures) (c .before .before .before .before .opened .ensures) (c .before .before .before .byte .ensures) .1 (c .before .if1 .left))
 
 pub in-balance-spec : {M : Type 1} → statement M
 in-balance-spec =
     tie.close
     (tie.spec
-    table-requires
     sub-last
     add-spare
     mul-spare

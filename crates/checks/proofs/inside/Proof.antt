@@ -13,8 +13,8 @@ use borrow.Author.Needs.{needs}
 use Rattle.checks.proofs.inside.Statement.{statement}
 use Rattle.checks.proofs.inside.Tie as tie
 
-whole : {r : List ℕ} {n : ℕ} → (n ≤ most) × (recordLength n ≤ length r) → length r ≤ recordLength n → Whole r n
-whole h l = record { few = h .0; exact = omega arith }
+whole : {r : List ℕ} {n : ℕ} → n ≤ most → recordLength n ≤ length r → length r ≤ recordLength n → Whole r n
+whole f h l = record { few = f; exact = omega arith }
 
 add-if1 : tie.Need-add-if1
 add-if1 c = search needs
@@ -61,7 +61,7 @@ opens-from-requires c κs = search needs
 returns-3 : tie.Need-returns-3
 returns-3 c =
     let start = c .before .before .before .before .before .before in
-    sym (inside-some (start .args .bytes .now) (start .args .n) (whole (start .pre) (c .before .before .before .before .if1 .left)) (omega arith) (c .before .opens-from .result) (c .before .opens-from .ensures) ∙ rw (c .if3 .taken))
+    sym (inside-some (start .args .bytes .now) (start .args .n) (whole (start .pre .1) (start .pre .2) (c .before .before .before .before .if1 .left)) (omega arith) (c .before .opens-from .result) (c .before .opens-from .ensures) ∙ rw (c .if3 .taken))
 
 in-balance-requires : tie.Need-in-balance-requires
 in-balance-requires c κs = search needs
@@ -69,12 +69,12 @@ in-balance-requires c κs = search needs
 returns-4 : tie.Need-returns-4
 returns-4 c =
     let start = c .before .before .before .before .before .before .before .before in
-    sym (inside-some (start .args .bytes .now) (start .args .n) (whole (start .pre) (c .before .before .before .before .before .before .if1 .left)) (omega arith) (c .before .before .before .opens-from .result) (c .before .before .before .opens-from .ensures) ∙ rw (c .before .before .if3 .left, ← (c .before .in-balance .ensures), c .if4 .taken))
+    sym (inside-some (start .args .bytes .now) (start .args .n) (whole (start .pre .1) (start .pre .2) (c .before .before .before .before .before .before .if1 .left)) (omega arith) (c .before .before .before .opens-from .result) (c .before .before .before .opens-from .ensures) ∙ rw (c .before .before .if3 .left, ← (c .before .in-balance .ensures), c .if4 .taken))
 
 returns-5 : tie.Need-returns-5
 returns-5 c =
     let start = c .before .before .before .before .before .before .before .before in
-    sym (inside-some (start .args .bytes .now) (start .args .n) (whole (start .pre) (c .before .before .before .before .before .before .if1 .left)) (omega arith) (c .before .before .before .opens-from .result) (c .before .before .before .opens-from .ensures) ∙ rw (c .before .before .if3 .left, ← (c .before .in-balance .ensures), c .if4 .left))
+    sym (inside-some (start .args .bytes .now) (start .args .n) (whole (start .pre .1) (start .pre .2) (c .before .before .before .before .before .before .if1 .left)) (omega arith) (c .before .before .before .opens-from .result) (c .before .before .before .opens-from .ensures) ∙ rw (c .before .before .if3 .left, ← (c .before .in-balance .ensures), c .if4 .left))
 
 pub inside-spec : {M : Type 1} → statement M
 inside-spec =

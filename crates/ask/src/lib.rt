@@ -48,12 +48,11 @@ fn lowest(t: &[i8; 768], body: &[u8], i: usize, j: usize) -> Scan
 }
 
 // The entry whose closing is the leftmost place of smallest excess from closing i to closing j.
-fn between(bytes: &[u8], i: usize, j: usize) -> usize
-    requires { ⌜ Taken (now bytes) i j ⌝ }
+fn between(t: &[i8; 768], bytes: &[u8], i: usize, j: usize) -> usize
+    requires { ⌜ (now t ≡ rows) × Taken (now bytes) i j ⌝ }
     ensures { λ r. ⌜ r ≡ entryBetween (parens (entries (now (bytes .entry))) (now (bytes .entry))) i j ⌝ }
 {
-    let t = scan::table();
-    let end = lowest(&t, &bytes[4..], i, j);
+    let end = lowest(t, &bytes[4..], i, j);
     closings(end.place + 1, end.smallest) - 1
 }
 
@@ -62,13 +61,14 @@ fn between(bytes: &[u8], i: usize, j: usize) -> usize
 pub fn ask(bytes: &[u8], i: usize, j: usize) -> Answer
     ensures { λ r. ⌜ said r ≡ askSays (now (bytes .entry)) i j ⌝ }
 {
-    match checks::check(bytes) {
+    let t = scan::table();
+    match checks::check_through(&t, bytes) {
         Answer::Is(n) => {
             if j < i {
                 return Answer::Refused(Refusal::OutOfRange);
             }
             if j < n {
-                return Answer::Is(between(bytes, i, j));
+                return Answer::Is(between(&t, bytes, i, j));
             }
             Answer::Refused(Refusal::OutOfRange)
         }

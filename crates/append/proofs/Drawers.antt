@@ -138,6 +138,7 @@ module _ (b : List ℕ) (u : ℕ) (c w : List ℕ) (v k : ℕ) (g : Grown b u c 
       record {
         before = g .ready .whole;
         drawer = rw is counted;
+        joined = is;
         records = omega (arith, g .ready .room);
         bytes = short;
         newest = rw is newest;

@@ -1,7 +1,7 @@
 -- Document 01, "Record and drawer bytes" and the paragraph on hand-out and look: what the rules of drawers amount to, for every input.
 use mathlib.Core.Path.{_≡_}
 use Prim.Native.Nat.{ℕ, _+_, _-_, _≤_, _<_}
-use mathlib.Core.List.{List, []}
+use mathlib.Core.List.{List, [], _++_}
 use lib.ListN.{length, take, drop}
 use Rattle.rules.specs.Column.{Alike}
 use Rattle.rules.specs.Bytes.{most, recordLength, columnRecord, entries}
@@ -18,6 +18,7 @@ pub record Appended (b : List ℕ) (u : ℕ) (c w : List ℕ) (v k : ℕ) : Type
   -- k whole framed records stood there; they are a drawer again, of one record more
   pub before : recordsIn (take u b) ≡ answer k
   pub drawer : recordsIn (take v (bufferAfter b u c w)) ≡ answer (k + 1)
+  pub joined : take v (bufferAfter b u c w) ≡ take u b ++ columnRecord c
   pub records : k + 1 ≤ mostRecords
   pub bytes : v ≤ mostBytes
   -- find of the new number gives the new record, and that is the column's

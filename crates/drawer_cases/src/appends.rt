@@ -1,93 +1,93 @@
 // Append into short buffers, with the whole buffer and the whole work shown.
-use crate::fill;
-use crate::part;
+use crate::drawers;
 use crate::print;
-use crate::tally;
+use crate::seen;
 use answers::Answer;
-
-fn inputs(room: usize, used: usize, column: &[u32], numbers: usize) {
-    print::text(b"append");
-    print::counts(column);
-    print::text(b" into ");
-    print::decimal(room);
-    print::text(b" used ");
-    print::decimal(used);
-    print::text(b" with ");
-    print::decimal(numbers);
-    print::text(b":");
-}
+use restated::part;
+use shown::Line;
 
 // One append, and what it left.
-pub fn row(seen: &mut [usize; 15], buffer: &[u8], work: &[u16], a: Answer) {
-    tally::answer(seen, a);
-    print::answer(a);
-    print::text(b";");
-    print::bytes(buffer);
-    print::text(b";");
-    print::work(work);
-    print::text(b"\n");
+pub fn left(seen: &mut [usize; 15], line: Line, buffer: &[u8], work: &[u16], a: Answer) {
+    seen::answer(seen, a);
+    print::show(line.answer(a).buffers(buffer, work));
 }
 
-// The first `room` bytes of a buffer that begins with these bytes and is full of EE behind them, and the first
-// `numbers` numbers of a work full of 7.
-fn one(
-    seen: &mut [usize; 15],
-    bytes: &[u8],
-    room: usize,
-    used: usize,
-    column: &[u32],
-    numbers: usize,
-) {
+// What a buffer may begin with: nothing; a record; one that is unmarked, too large, not clean.
+fn begun(which: usize) -> [u8; 6] {
+    let rows: [[u8; 6]; 5] = [
+        [0, 0, 0, 0, 0, 0],
+        [5, 0x52, 0x4D, 1, 0, 1],
+        [4, 0x52, 0x4E, 0, 0, 0],
+        [5, 0x52, 0x4D, 1, 0x80, 1],
+        [5, 0x52, 0x4D, 1, 0, 6],
+    ];
+    rows[which % 5]
+}
+
+// Columns of five entries, of two and of one; of none too.
+fn entries(n: usize) -> [u32; 5] {
+    if n == 5 {
+        return [4, 2, 4, 2, 9];
+    }
+    if n == 2 {
+        return [2, 1, 0, 0, 0];
+    }
+    [7, 0, 0, 0, 0]
+}
+
+// Into the first `room` bytes of a buffer full of EE behind what it begins with, with the first `numbers` numbers of
+// a work full of 7.
+fn one(seen: &mut [usize; 15], row: [usize; 5]) {
     let mut buffer = [0xEEu8; 16];
     let mut work = [7u16; 6];
-    fill::copy(&mut buffer, bytes);
-    inputs(room, used, column, numbers);
+    let column = entries(row[3]);
+    let some = part::counts(&column, row[3]);
+    drawers::copy(&mut buffer, part::counted(&begun(row[0])));
+    let line = Line::new().text(b"append").counts(some);
+    let inputs = line.form(b" into # used # with #:", &[row[1], row[2], row[4]]);
     let a = append::append(
-        part::bytes_mut(&mut buffer, room),
-        used,
-        column,
-        part::work_mut(&mut work, numbers),
+        part::bytes_mut(&mut buffer, row[1]),
+        row[2],
+        some,
+        part::numbers_mut(&mut work, row[4]),
     );
-    row(seen, &buffer, &work, a);
+    left(seen, inputs, &buffer, &work, a);
 }
 
-// Room and work exactly enough, one too few of each, and of both.
-fn tight(seen: &mut [usize; 15]) {
-    let record = [0x52, 0x4D, 1, 0, 1];
-    one(seen, &record, 16, 5, &[4, 2, 4, 2, 9], 6);
-    one(seen, &record, 11, 5, &[4, 2, 4, 2, 9], 5);
-    one(seen, &record, 10, 5, &[4, 2, 4, 2, 9], 5);
-    one(seen, &record, 11, 5, &[4, 2, 4, 2, 9], 4);
-    one(seen, &record, 10, 5, &[4, 2, 4, 2, 9], 4);
-    one(seen, &record, 9, 5, &[], 0);
-    one(seen, &record, 8, 5, &[], 0);
-    one(seen, &record, 5, 5, &[], 0);
-    one(seen, &[], 4, 0, &[], 0);
-    one(seen, &[], 3, 0, &[], 0);
-    one(seen, &[], 0, 0, &[], 0);
-}
-
-// A used length past the buffer, and used bytes that are not whole framed records; then with 2 and 3 to come.
-fn used(seen: &mut [usize; 15]) {
-    let record = [0x52, 0x4D, 1, 0, 1];
-    one(seen, &record, 16, 16, &[7], 6);
-    one(seen, &record, 16, 17, &[7], 6);
-    one(seen, &record, 4, 5, &[7], 6);
-    one(seen, &record, 16, 18446744073709551615, &[7], 6);
-    one(seen, &record, 16, 4, &[7], 6);
-    one(seen, &record, 16, 6, &[7], 6);
-    one(seen, &[0x52, 0x4E, 0, 0], 16, 4, &[7], 6);
-    one(seen, &[0x52, 0x4D, 1, 0x80, 1], 16, 5, &[7], 6);
-    one(seen, &record, 4, 4, &[7], 6);
-    one(seen, &record, 16, 4, &[7], 0);
-    one(seen, &record, 4, 5, &[7], 0);
-    one(seen, &record, 0, 1, &[7], 0);
-    // bits inside are not judged; bytes behind the used ones are nothing
-    one(seen, &[0x52, 0x4D, 1, 0, 6], 16, 5, &[7], 6);
-    one(seen, &record, 16, 0, &[2, 1], 6);
-}
-
+// What the buffer begins with, room, used length, how many entries, work numbers.
 pub fn all(seen: &mut [usize; 15]) {
-    tight(seen);
-    used(seen);
+    let rows: [[usize; 5]; 25] = [
+        // room and work exactly enough, one too few of each, and of both
+        [1, 16, 5, 5, 6],
+        [1, 11, 5, 5, 5],
+        [1, 10, 5, 5, 5],
+        [1, 11, 5, 5, 4],
+        [1, 10, 5, 5, 4],
+        [1, 9, 5, 0, 0],
+        [1, 8, 5, 0, 0],
+        [1, 5, 5, 0, 0],
+        [0, 4, 0, 0, 0],
+        [0, 3, 0, 0, 0],
+        [0, 0, 0, 0, 0],
+        // a used length past the buffer, and used bytes that are not whole framed records
+        [1, 16, 16, 1, 6],
+        [1, 16, 17, 1, 6],
+        [1, 4, 5, 1, 6],
+        [1, 16, 18446744073709551615, 1, 6],
+        [1, 16, 4, 1, 6],
+        [1, 16, 6, 1, 6],
+        [2, 16, 4, 1, 6],
+        [3, 16, 5, 1, 6],
+        // then with 2 and 3 to come
+        [1, 4, 4, 1, 6],
+        [1, 16, 4, 1, 0],
+        [1, 4, 5, 1, 0],
+        [1, 0, 1, 1, 0],
+        // bits inside are not judged; bytes behind the used ones are nothing
+        [4, 16, 5, 1, 6],
+        [1, 16, 0, 2, 6],
+    ];
+    for k in 0..25 {
+        one(seen, rows[k]);
+    }
 }

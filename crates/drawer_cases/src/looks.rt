@@ -1,71 +1,85 @@
 // The look through two drawers, and which of them decides.
-use crate::fill;
-use crate::fill::Kind;
-use crate::part;
+use crate::drawers;
+use crate::drawers::Kind;
 use crate::print;
-use crate::tally;
+use crate::seen;
+use restated::part;
+use shown::Line;
 
 fn look<'a>(seen: &mut [usize; 15], own: &'a [u8], shared: &'a [u8], r: usize) {
     let w = drawer::which(own, shared, r);
-    tally::whence(seen, w);
-    print::text(b"  look ");
-    print::decimal(r);
-    print::text(b":");
-    print::whence(w);
-    print::part(drawer::look(own, shared, r));
-    print::text(b"\n");
+    seen::whence(seen, w);
+    let line = print::whence(Line::new().form(b"  look #:", &[r]), w);
+    print::show(print::part(line, drawer::look(own, shared, r)));
 }
 
 fn both<'a>(seen: &mut [usize; 15], own: &'a [u8], shared: &'a [u8]) {
-    print::text(b"own");
-    print::bytes(own);
-    print::text(b"; shared");
-    print::bytes(shared);
-    print::text(b"\n");
+    let line = Line::new().text(b"own").hexes(own);
+    print::show(line.text(b"; shared").hexes(shared).text(b"\n"));
     look(seen, own, shared, 0);
     look(seen, own, shared, 1);
     look(seen, own, shared, 64);
 }
 
+fn pair(seen: &mut [usize; 15], own: [u8; 12], shared: [u8; 11]) {
+    both(seen, part::counted(&own), part::counted(&shared));
+}
+
 // This own drawer over shared ones: a record with entries; one without; none; bytes that are no records.
-fn over(seen: &mut [usize; 15], own: &[u8]) {
-    both(seen, own, &[0x52, 0x4D, 2, 0, 3, 0x52, 0x4D, 3, 0, 0x13]);
-    both(seen, own, &[0x52, 0x4D, 0, 0, 0x52, 0x4D, 0, 0]);
-    both(seen, own, &[]);
-    both(seen, own, &[0x51, 0x4D, 0, 0]);
-    both(seen, own, &[0x52, 0x4D, 0, 0, 0x52, 0x4D, 1, 0x80]);
+fn over(seen: &mut [usize; 15], own: [u8; 12]) {
+    let rows: [[u8; 11]; 5] = [
+        [10, 0x52, 0x4D, 2, 0, 3, 0x52, 0x4D, 3, 0, 0x13],
+        [8, 0x52, 0x4D, 0, 0, 0x52, 0x4D, 0, 0, 0, 0],
+        [0, 0, 0, 0, 0, 0, 0, 0, 0, 0, 0],
+        [4, 0x51, 0x4D, 0, 0, 0, 0, 0, 0, 0, 0],
+        [8, 0x52, 0x4D, 0, 0, 0x52, 0x4D, 1, 0x80, 0, 0],
+    ];
+    for k in 0..5 {
+        pair(seen, own, rows[k]);
+    }
 }
 
 pub fn all(seen: &mut [usize; 15]) {
-    // records with entries; without; one of each, both ways; one whose bits are out of balance
-    over(seen, &[0x52, 0x4D, 1, 0, 1, 0x52, 0x4D, 5, 0, 0x33, 1]);
-    over(seen, &[0x52, 0x4D, 0, 0, 0x52, 0x4D, 0, 0]);
-    over(seen, &[0x52, 0x4D, 0, 0, 0x52, 0x4D, 1, 0, 1]);
-    over(seen, &[0x52, 0x4D, 1, 0, 2, 0x52, 0x4D, 0, 0]);
-    // no record; only record 0
-    over(seen, &[]);
-    over(seen, &[0x52, 0x4D, 1, 0, 1]);
-    // record 1 cut short, unmarked, too large
-    over(seen, &[0x52, 0x4D, 0, 0, 0x52, 0x4D, 1, 0]);
-    over(seen, &[0x52, 0x4D, 1, 0, 1, 0x52, 0x4E, 1, 0, 1]);
-    over(seen, &[0x52, 0x4D, 1, 0, 1, 0x52, 0x4D, 1, 0x80, 1]);
+    let rows: [[u8; 12]; 9] = [
+        // records with entries; without; one of each, both ways; one whose bits are out of balance
+        [11, 0x52, 0x4D, 1, 0, 1, 0x52, 0x4D, 5, 0, 0x33, 1],
+        [8, 0x52, 0x4D, 0, 0, 0x52, 0x4D, 0, 0, 0, 0, 0],
+        [9, 0x52, 0x4D, 0, 0, 0x52, 0x4D, 1, 0, 1, 0, 0],
+        [9, 0x52, 0x4D, 1, 0, 2, 0x52, 0x4D, 0, 0, 0, 0],
+        // no record; only record 0
+        [0, 0, 0, 0, 0, 0, 0, 0, 0, 0, 0, 0],
+        [5, 0x52, 0x4D, 1, 0, 1, 0, 0, 0, 0, 0, 0],
+        // record 1 cut short, unmarked, too large
+        [8, 0x52, 0x4D, 0, 0, 0x52, 0x4D, 1, 0, 0, 0, 0],
+        [10, 0x52, 0x4D, 1, 0, 1, 0x52, 0x4E, 1, 0, 1, 0],
+        [10, 0x52, 0x4D, 1, 0, 1, 0x52, 0x4D, 1, 0x80, 1, 0],
+    ];
+    for k in 0..9 {
+        over(seen, rows[k]);
+    }
 }
 
-// Drawers above 65,536 bytes: 12 of the own one decides, and of the shared one where the own one says 10.
+// The first bytes of a long drawer for both, so many for each.
+fn sized(seen: &mut [usize; 15], bytes: &[u8], own: usize, shared: usize, records: &[usize]) {
+    print::show(Line::new().form(b"own of #, shared of #\n", &[own, shared]));
+    let mut k = 0;
+    while k < records.len() {
+        look(
+            seen,
+            part::bytes(bytes, own),
+            part::bytes(bytes, shared),
+            records[k],
+        );
+        k += 1;
+    }
+}
+
+// 12 of the own drawer decides, and of the shared one where the own one says 10.
 pub fn long(seen: &mut [usize; 15]) {
     let mut bytes = [0u8; 65537];
-    fill::drawer(&mut bytes, Kind::OfMost);
-    let most = part::bytes(&bytes, 65536);
-    print::text(b"own of 65537, shared of 65536\n");
-    look(seen, &bytes, most, 7);
-    look(seen, &bytes, most, 64);
-    print::text(b"own of 65536, shared of 65537\n");
-    look(seen, most, &bytes, 7);
-    look(seen, most, &bytes, 8);
-    look(seen, most, &bytes, 64);
-    print::text(b"own of 65537, shared of 65537\n");
-    look(seen, &bytes, &bytes, 7);
-    print::text(b"own of 0, shared of 65536\n");
-    look(seen, &[], most, 7);
-    look(seen, &[], most, 8);
+    drawers::fill(&mut bytes, Kind::OfMost);
+    sized(seen, &bytes, 65537, 65536, &[7, 64]);
+    sized(seen, &bytes, 65536, 65537, &[7, 8, 64]);
+    sized(seen, &bytes, 65537, 65537, &[7]);
+    sized(seen, &bytes, 0, 65536, &[7, 8]);
 }

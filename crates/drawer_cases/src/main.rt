@@ -3,14 +3,13 @@
 // what it changes. What is written is compared with the file stdout.
 mod appends;
 mod chains;
+mod drawers;
 mod faults;
-mod fill;
 mod finds;
 mod limits;
 mod looks;
-mod part;
 mod print;
-mod tally;
+mod seen;
 
 fn main() {
     let mut seen = [0usize; 15];
@@ -21,11 +20,9 @@ fn main() {
     looks::all(&mut seen);
     looks::long(&mut seen);
     appends::all(&mut seen);
-    limits::alone(&mut seen);
-    limits::pairs(&mut seen);
-    limits::edges(&mut seen);
+    limits::all(&mut seen);
     chains::three(&mut seen);
     chains::last(&mut seen);
     chains::many(&mut seen);
-    tally::show(&seen);
+    seen::show(&seen);
 }

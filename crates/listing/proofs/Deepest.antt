@@ -1,13 +1,13 @@
 -- The greatest excess by a walk along the parentheses.
 -- Assumes nothing.
-use mathlib.Core.Path.{_≡_, refl, ap, _∙_}
-use Prim.Native.Nat.{ℕ, zero, suc, pred, max, _+_, _-_, _*_, _≤_, _<_, zero-le}
+use mathlib.Core.Path.{_≡_, refl, _∙_}
+use Prim.Native.Nat.{ℕ, zero, suc, pred, max, _+_, _-_, _≤_, _<_, zero-le}
 use native.Mathlib.Omega.{arith}
 use mathlib.Core.List.{List, [], _∷_}
 use lib.ListN.{length, drop, getD, drop-of-length-le}
 use lib.Seq.{drop-cons}
 use Rattle.rules.specs.Shape.{Paren, opening, closing}
-use Rattle.rules.specs.Excess.{openings, closings, listOf, excesses, balanced, Balanced}
+use Rattle.rules.specs.Excess.{listOf, excesses, balanced, Balanced}
 use Rattle.rules.specs.Bytes.{paren}
 use Rattle.rules.specs.Listing.{greatestOf, greatestExcess}
 use Rattle.rules.proofs.Excess.{Kept, kept-is, kept-opening, kept-closing, kept-not-closed, is-balanced, excesses-opening, excesses-closing}

@@ -9,7 +9,7 @@ use mathlib.Core.List.{List, [], _∷_, _++_, map}
 use borrow.Author.Tests.{eq-eqb, ne-eqb}
 use lib.ListN.{length, drop, getD, length-drop, length-map, List·getD-append}
 use lib.Seq.{getD-append-add, getD-take, getD-drop}
-use Rattle.rules.specs.Shape.{Paren, opening, closing}
+use Rattle.rules.specs.Shape.{Paren, closing}
 use Rattle.rules.specs.Bytes.{paren, lowBits, allBits, parens}
 use Rattle.rules.specs.Listing.{dash, sign, shownShape}
 use Rattle.rules.proofs.Bytes.{lowBits-length}

@@ -8,8 +8,7 @@ mod text;
 use answers::Answer;
 ghost use mathlib.Core.Path.{_≡_};
 ghost use lib.ListN.{length};
-ghost use Rattle.rules.specs.Listing.{listingLines};
-ghost use Rattle.listing.specs.Left.{linesLeft, Step·Writes};
+ghost use Rattle.listing.specs.Left.{Starts, Step·Writes};
 
 // What of a listing is still to be written.
 pub enum Rest {
@@ -37,7 +36,7 @@ pub fn buffer() -> [u8; 65600]
 
 // The whole listing of a drawer, nothing of it written yet.
 pub fn start(drawer: &[u8]) -> Rest
-    ensures { λ r. ⌜ linesLeft (now (drawer .entry)) r ≡ listingLines (now (drawer .entry)) ⌝ }
+    ensures { λ r. ⌜ Starts (now (drawer .entry)) r ⌝ }
 {
     if 65536 < drawer.len() {
         return Rest::Long;
@@ -50,6 +49,7 @@ fn line_at(drawer: &[u8], k: u8, at: usize, out: &mut [u8; 65600]) -> Step
     ensures { λ r. ⌜ Step·Writes (now (drawer .entry)) (Rest.Lines k at) (now (out .entry)) r (now (out .exit)) ⌝ }
 {
     let number = k as usize;
+    let count = number + 1;
     if drawer.len() <= at {
         return Step {
             length: lines::end(number, out),
@@ -59,7 +59,7 @@ fn line_at(drawer: &[u8], k: u8, at: usize, out: &mut [u8; 65600]) -> Step
     if 64 <= k {
         return Step {
             length: lines::refused(number, 14, out),
-            rest: Rest::End(number + 1),
+            rest: Rest::End(count),
         };
     }
     match checks::frame(&drawer[at..]) {
@@ -71,8 +71,8 @@ fn line_at(drawer: &[u8], k: u8, at: usize, out: &mut [u8; 65600]) -> Step
             }
         }
         Answer::Refused(x) => Step {
-            length: lines::refused(number, lines::number_of(x), out),
-            rest: Rest::End(number + 1),
+            length: lines::refused(number, answers::number_of(x), out),
+            rest: Rest::End(count),
         },
     }
 }

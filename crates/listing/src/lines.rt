@@ -2,36 +2,12 @@
 use crate::shape;
 use crate::text;
 use answers::Answer;
-use answers::Refusal;
 ghost use mathlib.Core.Path.{_≡_};
 ghost use Rattle.rules.specs.Refusal.{answer};
 ghost use Rattle.rules.specs.Order.{checkSays};
 ghost use Rattle.rules.specs.Bytes.{parens};
 ghost use Rattle.rules.specs.Listing.{shapeLine, refusedLine, endLine, longLine, recordLine};
-ghost use Rattle.answers.specs.Said.{number as Said·number};
 ghost use Rattle.listing.specs.Wrote.{Wrote};
-
-// The document's number of a refusal.
-pub fn number_of(x: Refusal) -> usize
-    ensures { λ r. ⌜ r ≡ Said·number x ⌝ }
-{
-    match x {
-        Refusal::TooManyEntries => 1,
-        Refusal::OutputShort => 2,
-        Refusal::WorkShort => 3,
-        Refusal::Unmarked => 4,
-        Refusal::CutShort => 5,
-        Refusal::UnusedBit => 6,
-        Refusal::Unbalanced => 7,
-        Refusal::OutOfRange => 8,
-        Refusal::Foreign => 9,
-        Refusal::NoRecord => 10,
-        Refusal::BytesAfter => 11,
-        Refusal::DrawerLong => 12,
-        Refusal::UsedWrong => 13,
-        Refusal::DrawerFull => 14,
-    }
-}
 
 // The last line.
 pub fn end(count: usize, out: &mut [u8; 65600]) -> usize
@@ -77,6 +53,6 @@ pub fn judged(k: usize, bytes: &[u8], out: &mut [u8; 65600]) -> usize
 {
     match checks::check(bytes) {
         Answer::Is(n) => accepted(k, bytes, n, out),
-        Answer::Refused(x) => refused(k, number_of(x), out),
+        Answer::Refused(x) => refused(k, answers::number_of(x), out),
     }
 }

@@ -165,27 +165,6 @@ module _ (body : List ℕ) (lent : Lent body) where
       from-here body lent k x e at-x near here is (8 * endOf body k) stop r (omega arith)
       (rw sum at (goes-all body lent here f w stop r (omega arith) runs))
 
-  -- up to a closing from its block's start
-  module _ (k y stop : ℕ) (st mid : Scan) (at-y : ClosingAt body k y) (runs : Runs st (256 * k) (take (y / 8 - 32 * k) (drop (32 * k) body)) stop mid) where
-    runs′ : Runs st (8 * (32 * k)) (take (y / 8 - 32 * k) (drop (32 * k) body)) stop mid
-    runs′ = let e : 256 * k ≡ 8 * (32 * k) = omega arith in rw e at runs
-
-    pub upto-stopped : mid .smallest ≤ stop → GoesOn body (256 * k) (y + 1) st stop mid
-    upto-stopped low =
-        let h = at-y .within in
-        let a = at-y .from in
-        let e : 8 * (32 * k) ≡ 256 * k = omega arith in
-        rw e at (goes-stopped body lent st (32 * k) (y / 8 - 32 * k) stop mid (omega arith) runs′ (y + 1) (omega arith) low)
-
-    pub upto-through : (r : Scan) → stop < mid .smallest → r ≡ scanOf mid (8 * (y / 8)) (take (y % 8 + 1) (lowBits 8 (getD body (y / 8) 0))) → GoesOn body (256 * k) (y + 1) st stop r
-    upto-through r high is =
-        let h = at-y .within in
-        let a = at-y .from in
-        let e : 8 * (32 * k) ≡ 256 * k = omega arith in
-        let m : 32 * k + (y / 8 - 32 * k) ≡ y / 8 = omega arith in
-        let n : 8 * (y / 8) + (y % 8 + 1) ≡ y + 1 = omega arith in
-        rw (e, m, n) at (goes-through body lent st (32 * k) (y / 8 - 32 * k) stop mid (omega arith) runs′ (y % 8 + 1) r (omega arith) (omega arith) high (rw m is))
-
   -- from a closing up to one in a later byte
   module _ (k x e y stop : ℕ) (here mid : Scan) (at-x : ClosingAt body k x) (near : Near e) (at-y : ClosingAt body k y)
       (is : here ≡ scanOf (begun e (8 * (x / 8) + x % 8)) (8 * (x / 8) + x % 8 + 1) (drop (x % 8 + 1) (lowBits 8 (getD body (x / 8) 0)))) (later : x / 8 + 1 ≤ y / 8)

@@ -7,13 +7,15 @@ use native.Mathlib.Nat.{le-refl, le-trans}
 use native.Mathlib.Omega.{arith}
 use mathlib.Core.List.{List}
 use lib.ListN.{getD}
+use Rattle.rules.specs.Excess.{closingPlace}
+use Rattle.rules.specs.Bytes.{allBits}
 use Rattle.scan.specs.declared.Scan.{Scan}
 use Rattle.scan.specs.Scan.{Ready}
 use Rattle.blocks.specs.Search.{Before}
-use Rattle.quick.specs.Part.{ground, height, level, ClosingAt, GoesOn}
+use Rattle.quick.specs.Part.{ground, height, level, ClosingAt, Reaches}
 use Rattle.quick.specs.Quick.{parensIn, Ours, closingIn, Block, Stands, Finishes}
 use Rattle.quick.proofs.Beats.{beats-idle}
-use Rattle.quick.proofs.Ours.{level-own, leaf-bounds, closing-low}
+use Rattle.quick.proofs.Ours.{closings-all, level-own, leaf-bounds, closing-same, closing-low}
 
 -- a closing that was found stands in its block
 pub there : {body t : List ℕ} {k i r : ℕ} → Stands body t k i r → (r ≡ 131072 → ⊥) → ClosingAt body k r
@@ -34,26 +36,18 @@ module _ (body t : List ℕ) (b j : ℕ) (block : Block body b) (low : ℕ) (lea
         right = λ n ours among at some. beats-idle (height body) (256 * b) (closingIn body n j + 1) best (λ p g l. le-trans h (bounds n ours among at p g l));
       }
 
-  -- a closing that is nowhere is none of the record's own
-  pub nowhere : (y : ℕ) → Stands body t b j y → y ≡ 131072 → Finishes body t b j best best
-  nowhere y s e =
-      record {
-        bound = le-refl _;
-        right = λ n ours among at some. let f = ours .own .few in absurd (omega (arith, s .right n ours among at, closing-low body t n ours j among));
-      }
-
   pub ready-start : (e : ℕ) → e ≤ 65535 → best .smallest ≤ 1048576 → Ready (record { excess = 131072 + e; smallest = best .smallest; place = best .place }) 256
   ready-start e h l = record { room = omega arith; high = omega arith; bound = l }
 
-  pub finished : (y e : ℕ) (r : Scan) → Stands body t b j y → Before t b e
-      → GoesOn body (256 * b) (y + 1) (record { excess = 131072 + e; smallest = best .smallest; place = best .place }) low r → Finishes body t b j best r
-  finished y e r s before on =
+  pub finished : (e : ℕ) (r : Scan) → Before t b e → Reaches body b j (record { excess = 131072 + e; smallest = best .smallest; place = best .place }) low r → Finishes body t b j best r
+  finished e r before on =
       record {
         bound = on .bound;
         right = λ n ours among at some.
             let c = closing-low body t n ours j among in
-            let f : y ≡ closingIn body n j = s .right n ours among at in
+            let f : closingPlace (allBits body) j ≡ closingIn body n j = closing-same body t n ours j among in
             let g = before .right (parensIn body n) n (ours .own) some (omega arith) in
             let l : 131072 + e ≡ level body (256 * b) = ap (131072 +_) g ∙ sym (level-own body t n ours (256 * b) (omega arith) (omega arith)) in
-            rw f at (on .right l (λ p u v. bounds n ours among at p u (omega arith)));
+            let reach = on .right (omega (arith, closings-all body t n ours)) (ap (_/ 256) f ∙ at) in
+            rw f at (reach .right l (λ p u v. bounds n ours among at p u (omega arith)));
       }

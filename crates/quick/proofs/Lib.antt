@@ -1,6 +1,7 @@
 pub mod Beats
 pub mod Parts
 pub mod Closings
+pub mod Reaching
 pub mod Ours
 pub mod Standing
 pub mod Finishing

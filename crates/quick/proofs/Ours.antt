@@ -2,11 +2,10 @@
 -- Assumes nothing.
 use mathlib.Core.Path.{_≡_, refl, sym, ap, ap₂, _∙_}
 use Prim.Native.Nat.{ℕ, suc, min, _+_, _-_, _*_, _≤_, _<_}
-use native.Mathlib.Nat.{le-refl}
 use native.Mathlib.Omega.{arith}
 use mathlib.Core.List.{List}
 use lib.ListN.{length, take, drop, getD, take-append-drop}
-use lib.Seq.{take-take, take-all}
+use lib.Seq.{take-take}
 use Rattle.rules.specs.Column.{IsLeast, least}
 use Rattle.rules.specs.Shape.{Paren}
 use Rattle.rules.specs.Excess.{openings, closings, closingPlace, excess, excesses, entryBetween}
@@ -15,7 +14,7 @@ use Rattle.rules.specs.Summary.{node, leaf, blocksFor}
 use Rattle.rules.proofs.Bytes.{allBits-length}
 use Rattle.rules.proofs.Excess.{counts-length, excesses-at}
 use Rattle.rules.proofs.Least.{least-is, least-unique}
-use Rattle.rules.proofs.ClosingPlace.{closings-more, closing-within, closing-stands, closing-order}
+use Rattle.rules.proofs.ClosingPlace.{closings-more, closings-part, closing-within, closing-stands, closing-order}
 use Rattle.rules.proofs.Parts.{closing-first}
 use Rattle.rules.proofs.Counted.{excess-counts, least-closes, between-raised}
 use Rattle.rules.proofs.Summary.{filled-at, slot-leaf, slot-node, node-halves, leaf-least, leaf-stands}
@@ -51,6 +50,9 @@ module _ (body t : List ℕ) (n : ℕ) (ours : Ours body t n) where
       let l = own .balance .last in
       let m = own .long in
       omega (arith, counts-length (parensIn body n))
+
+  pub closings-all : n ≤ closings (allBits body)
+  closings-all = omega (arith, closings-n, closings-part (allBits body) (2 * n))
 
   -- ---- excesses
 
@@ -163,13 +165,10 @@ module _ (body t : List ℕ) (n : ℕ) (ours : Ours body t n) where
         let u = low .upto in
         let e = end in
         let b = long-bits in
-        let all : i < closings (allBits body) = omega (arith, closing-all) in
+        let all : i < closings (allBits body) = omega (arith, closings-all) in
         let c : closings (take (suc p) (allBits body)) ≡ suc (closings (take p (allBits body))) =
         least-closes ground (allBits body) i (closingIn body n j) p few-bits all (omega arith) (rw (closing-same i (omega arith)) is-least) in
         omega (arith, excess-counts ground (allBits body) p few-bits (omega arith), low .here, found)
-      where
-        closing-all : n ≤ closings (allBits body)
-        closing-all = omega (arith, closings-n, closings-more (allBits body) (2 * n) (length (allBits body)) long-bits, ap closings (take-all (length (allBits body)) (allBits body) (le-refl _)))
 
     pub between : (i ≤ entryBetween (parensIn body n) i j) × (entryBetween (parensIn body n) i j ≤ j)
     between =

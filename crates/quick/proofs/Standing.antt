@@ -3,7 +3,7 @@
 use mathlib.Core.Path.{_≡_, refl, sym, ap, ap₂, _∙_}
 use mathlib.Core.Logic.{_⊎_, inl, inr}
 use Prim.Native.Nat.{ℕ, _+_, _-_, _*_, _/_, _≤_, _<_}
-use native.Mathlib.Nat.{le-refl, eq-zero-or-pos}
+use native.Mathlib.Nat.{eq-zero-or-pos}
 use native.Mathlib.Omega.{arith}
 use mathlib.Core.Bool.{Bool, true, false, cond}
 use mathlib.Core.Logic.{⊎-elim}
@@ -16,7 +16,7 @@ use Rattle.rules.specs.Shape.{opening, closing}
 use Rattle.rules.specs.Excess.{closings, closingPlace}
 use Rattle.rules.specs.Bytes.{allBits}
 use Rattle.rules.proofs.Bytes.{allBits-length}
-use Rattle.rules.proofs.ClosingPlace.{closings-more, closing-within}
+use Rattle.rules.proofs.ClosingPlace.{closing-within}
 use Rattle.rules.proofs.Parts.{closing-closes}
 use Rattle.rules.proofs.Blocks.{closing-from, in-block, excess-closings}
 use Rattle.blocks.specs.Search.{Before}
@@ -24,7 +24,7 @@ use Rattle.blocks.specs.Select.{selectOf}
 use Rattle.quick.specs.Part.{endOf, ClosingAt}
 use Rattle.quick.specs.Quick.{parensIn, Ours, closingIn, Block}
 use Rattle.quick.proofs.Parts.{bits-take, bits-drop}
-use Rattle.quick.proofs.Ours.{closings-n, closing-same, closing-low, long-bits}
+use Rattle.quick.proofs.Ours.{closings-n, closings-all, closing-same, closing-low}
 
 -- the excess before a block is one of the summary's numbers, or 0
 pub before-small : {t : List ℕ} {k r : ℕ} → Before t k r → ((m : ℕ) → getD t m 0 ≤ 65535) → r ≤ 65535
@@ -119,7 +119,7 @@ module _ (body t : List ℕ) (n k i : ℕ) (ours : Ours body t n) (among : i < n
       let w = low in
       let same : closings (take (256 * k) u) ≡ closings (take (256 * k) (parensIn body n)) = ap closings (sym (take-take (256 * k) (2 * n) u (omega arith))) in
       let m : (2 * i + e - 256 * k) / 2 ≡ i - closings (take (256 * k) u) = omega (arith, counted, passed) in
-      let all : n ≤ closings u = omega (arith, closings-n body t n ours, closings-more u (2 * n) (length u) (long-bits body t n ours), ap closings (take-all (length u) u (le-refl _))) in
+      let all : n ≤ closings u = closings-all body t n ours in
       let at : closingPlace u i ≡ closingIn body n i = closing-same body t n ours i among in
       let p = in-block u i k (omega arith) (ap (_/ 256) at ∙ there) in
       let g : x ≡ closingPlace bits (i - closings (take (256 * k) u)) =

@@ -1,12 +1,12 @@
 -- Parts of a record's body, for any bytes whatever: what a scan of a part finds is said by the excesses alone.
 use mathlib.Core.Path.{_≡_}
 use mathlib.Core.Logic.{_⊎_}
-use Prim.Native.Nat.{ℕ, min, _+_, _-_, _*_, _≤_, _<_}
+use Prim.Native.Nat.{ℕ, min, _+_, _-_, _*_, _/_, _≤_, _<_}
 use mathlib.Core.List.{List}
 use lib.ListN.{length, take, getD}
 use Rattle.rules.specs.Shape.{opening, closing}
-use Rattle.rules.specs.Excess.{openings, closings, excess}
-use Rattle.rules.specs.Bytes.{allBits}
+use Rattle.rules.specs.Excess.{openings, closings, closingPlace, excess}
+use Rattle.rules.specs.Bytes.{lowBits, allBits}
 use Rattle.scan.specs.declared.Scan.{Scan}
 use Rattle.scan.specs.Scan.{scanOf}
 use Rattle.quick.specs.Lowest.{Lowest, Beats}
@@ -61,3 +61,15 @@ pub record FromClosing (body : List ℕ) (x b e stop : ℕ) (r : Scan) : Type 0 
 pub record GoesOn (body : List ℕ) (a b : ℕ) (st : Scan) (stop : ℕ) (r : Scan) : Type 0 where
   pub bound : r .smallest ≤ st .smallest
   pub right : st .excess ≡ level body a → Bounds body a b stop → Beats (height body) a b (st .smallest) (st .place) r
+
+-- byte b, whose first bit stands at place at, in state here, up to closing number j of the body: up to closing i of the byte, by the excess before it
+pub record EndsIn (here : Scan) (at b j : ℕ) (r : Scan) : Type 0 where
+  pub bound : r .smallest ≤ here .smallest
+  pub right : (i : ℕ) → 2 * j + here .excess ≡ 2 * i + (at + ground) → i < closings (lowBits 8 b)
+      → r ≡ scanOf here at (take (closingPlace (lowBits 8 b) i + 1) (lowBits 8 b))
+
+-- from the start of block k on, in state st, up to closing number j of the body, where it stands in that block
+pub record Reaches (body : List ℕ) (k j : ℕ) (st : Scan) (stop : ℕ) (r : Scan) : Type 0 where
+  pub bound : r .smallest ≤ st .smallest
+  pub right : j < closings (allBits body) → closingPlace (allBits body) j / 256 ≡ k
+      → GoesOn body (256 * k) (closingPlace (allBits body) j + 1) st stop r

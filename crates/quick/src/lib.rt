@@ -8,7 +8,7 @@ use answers::Refusal;
 use scan::Scan;
 use tree::Best;
 ghost use mathlib.Core.Path.{_≡_};
-ghost use Prim.Native.Nat.{_+_, _≤_, _<_};
+ghost use Prim.Native.Nat.{_+_, _*_, _≤_, _<_};
 ghost use lib.ListN.{length, getD};
 ghost use Rattle.tree.specs.Tree.{Between};
 ghost use Rattle.scan.specs.Rows.{rows as table};
@@ -81,16 +81,12 @@ fn finish(rows: &[i8; 768], body: &[u8], t: &[u16], b: usize, j: usize, best: Sc
     if best.smallest <= low {
         return best;
     }
-    let y = stands(body, t, b, j);
-    if y == GROUND {
-        return best;
-    }
     let start = Scan {
         excess: GROUND + blocks::before(t, b),
         smallest: best.smallest,
         place: best.place,
     };
-    part::upto(start, rows, body, b, y, low)
+    part::upto(start, rows, body, b, j, low)
 }
 
 // Where a block between the first and the last stands lowest so far: the last one's part, and if that is not
@@ -126,39 +122,69 @@ fn beyond(
     entry(inner.place, inner.smallest, i, j)
 }
 
-// Two blocks: the first one's part, unless a block between is lower than all of the first; then what follows it.
-fn apart(
+// The excess after closing i, which stands at place x.
+fn excess_after(x: usize, i: usize) -> usize
+    requires { ⌜ (x < 65536) × (i < 32768) ⌝ }
+    ensures { λ r. ⌜ (r + 2 * (i + 1) ≡ ground + (x + 1)) × Near r ⌝ }
+{
+    GROUND + x + 1 - 2 * (i + 1)
+}
+
+// Two blocks, of which the first may have the lowest place: its part, then what follows it.
+fn from_first(
     body: &[u8],
     t: &[u16],
     a: usize,
     b: usize,
     x: usize,
     e: usize,
+    best: Best,
     i: usize,
     j: usize,
 ) -> Answer
-    requires { ⌜ Given (now body) (now t) × (a < b) × Block (now body) b × (j < 32768) × ClosingAt (now body) a x × Near e ⌝ }
+    requires { ⌜ Given (now body) (now t) × (a < b) × Block (now body) b × (j < 32768) × ClosingAt (now body) a x × Near e × Between (now t) a b best ⌝ }
     ensures { λ r. ⌜ Apart (now (body .entry)) (now (t .entry)) a b x e i j (said r) ⌝ }
 {
-    let best = tree::climb(t, a, b);
-    let mid = GROUND + best.low;
-    let low = leaf(t, a);
     let rows = scan::table();
-    if low <= mid {
-        let first = part::behind(&rows, body, a, x, e, low);
-        if first.smallest <= mid {
-            let end = finish(&rows, body, t, b, j, first);
-            return entry(end.place, end.smallest, i, j);
-        }
+    let first = part::behind(&rows, body, a, x, e, leaf(t, a));
+    if first.smallest <= GROUND + best.low {
+        let end = finish(&rows, body, t, b, j, first);
+        return entry(end.place, end.smallest, i, j);
     }
     beyond(&rows, body, t, a, b, best, i, j)
 }
 
-// One block: from closing to closing.
-fn same(body: &[u8], t: &[u16], a: usize, x: usize, e: usize, i: usize, j: usize) -> Answer
-    requires { ⌜ Given (now body) (now t) × Block (now body) a × (j < 32768) × ClosingAt (now body) a x × Near e ⌝ }
-    ensures { λ r. ⌜ Apart (now (body .entry)) (now (t .entry)) a a x e i j (said r) ⌝ }
+// Two blocks: where one between is lower than all of the first, the first is not read.
+fn apart(body: &[u8], t: &[u16], a: usize, b: usize, i: usize, j: usize) -> Answer
+    requires { ⌜ Given (now body) (now t) × (a < b) × Block (now body) b × (i ≤ j) × (j < 32768) ⌝ }
+    ensures { λ r. ⌜ Spans (now (body .entry)) (now (t .entry)) a b i j (said r) ⌝ }
 {
+    let best = tree::climb(t, a, b);
+    if GROUND + best.low < leaf(t, a) {
+        let rows = scan::table();
+        return beyond(&rows, body, t, a, b, best, i, j);
+    }
+    let x = stands(body, t, a, i);
+    if x == GROUND {
+        return Answer::Refused(Refusal::Foreign);
+    }
+    from_first(body, t, a, b, x, excess_after(x, i), best, i, j)
+}
+
+// One block: from closing to closing. Where closing i is as low as the block goes, nothing is scanned.
+fn same(body: &[u8], t: &[u16], a: usize, i: usize, j: usize) -> Answer
+    requires { ⌜ Given (now body) (now t) × Block (now body) a × (i ≤ j) × (j < 32768) ⌝ }
+    ensures { λ r. ⌜ Spans (now (body .entry)) (now (t .entry)) a a i j (said r) ⌝ }
+{
+    let x = stands(body, t, a, i);
+    if x == GROUND {
+        return Answer::Refused(Refusal::Foreign);
+    }
+    let e = excess_after(x, i);
+    let low = leaf(t, a);
+    if e <= low {
+        return Answer::Is(i);
+    }
     let y = stands(body, t, a, j);
     if y == GROUND {
         return Answer::Refused(Refusal::Foreign);
@@ -166,30 +192,33 @@ fn same(body: &[u8], t: &[u16], a: usize, x: usize, e: usize, i: usize, j: usize
     if y < x {
         return Answer::Refused(Refusal::Foreign);
     }
-    let low = leaf(t, a);
     let rows = scan::table();
     let end = part::within(&rows, body, a, x, e, y, low);
     entry(end.place, end.smallest, i, j)
 }
 
-// From closing i in block a to closing j in block b. Where closing i is as low as any block from a to b goes,
-// nothing is scanned.
+// From closing i in block a to closing j in block b. Where closing i is as low as the tree says that any of
+// these blocks goes, nothing is scanned.
 fn between(body: &[u8], t: &[u16], a: usize, b: usize, i: usize, j: usize) -> Answer
     requires { ⌜ Given (now body) (now t) × (a ≤ b) × Block (now body) b × (i ≤ j) × (j < 32768) ⌝ }
     ensures { λ r. ⌜ Spans (now (body .entry)) (now (t .entry)) a b i j (said r) ⌝ }
 {
+    if a == b {
+        return same(body, t, a, i, j);
+    }
+    let low = GROUND + tree::over(t, a, b);
+    if low < leaf(t, a) {
+        return apart(body, t, a, b, i, j);
+    }
     let x = stands(body, t, a, i);
     if x == GROUND {
         return Answer::Refused(Refusal::Foreign);
     }
-    let e = x + 1 + GROUND - 2 * (i + 1);
-    if e <= GROUND + tree::over(t, a, b) {
+    let e = excess_after(x, i);
+    if e <= low {
         return Answer::Is(i);
     }
-    if a == b {
-        return same(body, t, a, x, e, i, j);
-    }
-    apart(body, t, a, b, x, e, i, j)
+    from_first(body, t, a, b, x, e, tree::climb(t, a, b), i, j)
 }
 
 // By the two blocks that the summary names.

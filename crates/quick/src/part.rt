@@ -1,12 +1,14 @@
 // Parts of a record's body through the table: from a closing on, up to a closing, a whole block. Each stops
 // where it has come as low as the summary says that the block goes.
+use crate::GROUND;
+use blocks::byte::Narrow;
 use scan::Scan;
 ghost use mathlib.Core.Path.{_≡_};
 ghost use Prim.Native.Nat.{_+_, _*_, _/_, _≤_, _<_};
 ghost use lib.ListN.{length};
 ghost use Rattle.scan.specs.Rows.{rows};
 ghost use Rattle.scan.specs.Scan.{Ready};
-ghost use Rattle.quick.specs.Part.{endOf, ClosingAt, Lent, Near, Runs, FromClosing, GoesOn};
+ghost use Rattle.quick.specs.Part.{endOf, ClosingAt, Lent, Near, Runs, FromClosing, GoesOn, EndsIn, Reaches};
 
 // Bytes until they end or the smallest is as low as stop.
 fn run(st: Scan, t: &[i8; 768], part: &[u8], at: usize, stop: usize) -> Scan
@@ -48,18 +50,52 @@ pub fn behind(t: &[i8; 768], body: &[u8], k: usize, x: usize, e: usize, stop: us
     run(here, t, &body[next..end], 8 * next, stop)
 }
 
-// From the start of block k, in state st, up to the closing at place y.
-pub fn upto(st: Scan, t: &[i8; 768], body: &[u8], k: usize, y: usize, stop: usize) -> Scan
-    requires { ⌜ (now t ≡ rows) × Lent (now body) × (k ≤ 255) × ClosingAt (now body) k y × Ready st 256 ⌝ }
-    ensures { λ r. ⌜ GoesOn (now (body .entry)) (256 * k) (y + 1) st stop r ⌝ }
+// Byte b, whose first bit stands at place at, up to closing number j of the body. Where the excess is no true
+// one, so that the closing is not in this byte, nothing of it.
+fn last(here: Scan, t: &[i8; 768], at: usize, b: u8, j: usize) -> Scan
+    requires { ⌜ (now t ≡ rows) × Ready here 8 × (at ≤ 65536) × (j < 32768) ⌝ }
+    ensures { λ r. ⌜ EndsIn here at b j r ⌝ }
 {
-    let from = 32 * k;
-    let m = y / 8;
-    let here = run(st, t, &body[from..m], 256 * k, stop);
-    if here.smallest <= stop {
+    // Before the byte stand (base - excess) / 2 closings.
+    let base = at + GROUND;
+    let up = 2 * j + here.excess;
+    if up < base {
         return here;
     }
-    ask::byte::upto(here, t, 8 * m, body[m], (y % 8) as u32 + 1)
+    let n = Narrow {
+        bits: b as u64,
+        k: (up - base) / 2,
+        at: 0,
+    };
+    if blocks::byte::count_eight(n.bits) <= n.k {
+        return here;
+    }
+    ask::byte::upto(here, t, at, b, blocks::byte::nth(n) as u32 + 1)
+}
+
+// From the start of block k, in state st, up to closing number j of the body: it stands in the first byte
+// behind which more than j closings are counted.
+pub fn upto(st: Scan, t: &[i8; 768], body: &[u8], k: usize, j: usize, stop: usize) -> Scan
+    requires { ⌜ (now t ≡ rows) × Lent (now body) × (k ≤ 255) × (32 * k ≤ length (now body)) × (j < 32768) × Ready st 256 ⌝ }
+    ensures { λ r. ⌜ Reaches (now (body .entry)) k j st stop r ⌝ }
+{
+    let end = end_of(body, k);
+    let mut here = st;
+    let mut m = 32 * k;
+    while m < end {
+        if here.smallest <= stop {
+            return here;
+        }
+        let b = body[m];
+        let at = 8 * m;
+        let next = here.byte(t, at, b);
+        if 2 * j + 2 + next.excess <= at + 8 + GROUND {
+            return last(here, t, at, b, j);
+        }
+        here = next;
+        m += 1;
+    }
+    here
 }
 
 // From the closing at place x, after which the excess is e, up to the closing at place y of the same block.

@@ -1,10 +1,11 @@
 // Every string of bytes that is framed as a record of up to eight entries.
 use crate::asks;
 use crate::judge;
-use crate::part;
-use crate::plain;
 use crate::print;
-use crate::tally::Tally;
+use restated::part;
+use restated::plain;
+use restated::tally::Tally;
+use shown::Line;
 
 // Every ask of a record of up to eight entries, against its stand-in.
 fn asked(tally: Tally, bytes: &[u8]) -> Tally {
@@ -18,13 +19,13 @@ fn asked(tally: Tally, bytes: &[u8]) -> Tally {
 }
 
 // The string of n entries whose one or two bytes behind the head are the number b.
-fn body(tally: Tally, seen: &mut [usize; 12], n: usize, b: usize) -> Tally {
+fn body(tally: Tally, seen: &mut [usize; 15], n: usize, b: usize) -> Tally {
     let six = plain::six(0x524D, n, b);
     let bytes = part::bytes(&six, 4 + (n % 256 + 3) / 4);
     asked(judge::string(tally, seen, bytes), bytes)
 }
 
-fn run(seen: &mut [usize; 12], n: usize, count: usize) -> Tally {
+fn run(seen: &mut [usize; 15], n: usize, count: usize) -> Tally {
     let mut t = Tally::new();
     let mut b = 0;
     while b < count {
@@ -36,12 +37,10 @@ fn run(seen: &mut [usize; 12], n: usize, count: usize) -> Tally {
 
 // All of n entries, `count` of them.
 fn of(n: usize, count: usize) {
-    let mut seen = [0usize; 12];
+    let mut seen = [0usize; 15];
     let t = run(&mut seen, n, count);
-    print::text(b"every body, n = ");
-    print::decimal(n);
-    judge::show(&seen);
-    t.show();
+    let line = Line::new().form(b"every body, n = #", &[n]);
+    print::show(judge::counts(line, &seen).tally(t));
 }
 
 pub fn bodies() {

@@ -1,10 +1,10 @@
 // One record or one string of bytes, against the rules restated plainly.
-use crate::compare;
-use crate::part;
-use crate::plain;
-use crate::print;
-use crate::tally;
-use crate::tally::Tally;
+use restated::compare;
+use restated::part;
+use restated::plain;
+use restated::tally;
+use restated::tally::Tally;
+use shown::Line;
 
 // Whether the stand-in is written to the column and nothing else is: both columns are lent full of one marker.
 fn stood(bytes: &[u8], column: &mut [u32], like: &mut [u32]) -> bool {
@@ -68,11 +68,9 @@ fn refused(tally: Tally, bytes: &[u8], r: usize) -> Tally {
 }
 
 // Any bytes. Under its refusal's number, or 0, one more is seen.
-pub fn string(tally: Tally, seen: &mut [usize; 12], bytes: &[u8]) -> Tally {
+pub fn string(tally: Tally, seen: &mut [usize; 15], bytes: &[u8]) -> Tally {
     let r = plain::check(bytes);
-    if r < 12 {
-        seen[r] = tally::more(seen[r]);
-    }
+    tally::see(seen, r);
     let t = tally.of(compare::refusal(checks::frame(bytes)) == plain::frame(bytes));
     if r == 0 {
         return passed(t, bytes);
@@ -80,25 +78,21 @@ pub fn string(tally: Tally, seen: &mut [usize; 12], bytes: &[u8]) -> Tally {
     refused(t, bytes, r)
 }
 
-fn under(r: usize, count: usize) {
+fn under(line: Line, r: usize, count: usize) -> Line {
     if count == 0 {
-        return;
+        return line;
     }
-    print::text(b"; ");
-    print::decimal(count);
     if r == 0 {
-        print::text(b" pass");
-        return;
+        return line.form(b"; # pass", &[count]);
     }
-    print::text(b" refused ");
-    print::decimal(r);
+    line.form(b"; # refused #", &[count, r])
 }
 
 // How many were seen under each number.
-pub fn show(seen: &[usize; 12]) {
-    let mut r = 0;
-    while r < 12 {
-        under(r, seen[r]);
-        r += 1;
+pub fn counts(line: Line, seen: &[usize; 15]) -> Line {
+    let mut counts = line;
+    for r in 0..15 {
+        counts = under(counts, r, seen[r]);
     }
+    counts
 }

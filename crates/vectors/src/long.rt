@@ -1,13 +1,15 @@
 // Columns of document 01 that are too long to show: what build says, the record's first and last bytes, the
 // longest ask, and how much differs from the rules restated plainly.
 use crate::asks;
-use crate::compare;
 use crate::judge;
-use crate::part;
 use crate::print;
-use crate::random;
-use crate::tally::Tally;
 use answers::Answer;
+use restated::columns;
+use restated::columns::Kind;
+use restated::compare;
+use restated::part;
+use restated::tally::Tally;
+use shown::Line;
 
 // The record checked, stood in for and built again.
 fn again(tally: Tally, bytes: &[u8]) -> Tally {
@@ -19,76 +21,57 @@ fn again(tally: Tally, bytes: &[u8]) -> Tally {
 }
 
 // The first six bytes and the last two, and the ask of all n entries.
-fn show(bytes: &[u8], n: usize) {
+fn ends(line: Line, bytes: &[u8], n: usize) -> Line {
     if bytes.len() < 8 {
-        return;
+        return line;
     }
     if n == 0 {
-        return;
+        return line;
     }
     let last = bytes.len() - 2;
-    print::text(b";");
-    print::bytes(&bytes[0..6]);
-    print::text(b" ..");
-    print::bytes(&bytes[last..]);
-    print::text(b"; ask of all");
-    print::answer(ask::ask(bytes, 0, n - 1));
+    let first = line.text(b";").hexes(&bytes[0..6]);
+    let both = first.text(b" ..").hexes(&bytes[last..]);
+    both.text(b"; ask of all:")
+        .answer(ask::ask(bytes, 0, n - 1))
 }
 
-fn record(tally: Tally, column: &[u32], bytes: &[u8]) {
+// A column built with more work and output than it needs: the work, what is behind the record, the record.
+fn row(line: Line, column: &[u32]) {
     let n = column.len();
-    show(bytes, n);
-    again(asks::all(tally, column, bytes, n / 16), bytes).show();
-}
-
-// A column built with more work and output than it needs, where it is not refused.
-fn row(column: &[u32]) {
     let mut work = [7u16; 32769];
     let mut out = [0xEEu8; 8197];
     let a = build::build(column, &mut work, &mut out);
-    let t = Tally::new();
-    print::decimal(column.len());
-    print::answer(a);
+    let said = line.form(b"#:", &[n]).answer(a);
     match a {
         Answer::Is(size) => {
-            let cleared = compare::cleared(&work, column.len());
-            let kept = compare::kept(&out, size);
-            record(t.of(cleared).of(kept), column, part::bytes(&out, size));
+            let bytes = part::bytes(&out, size);
+            let t = Tally::new()
+                .of(compare::cleared(&work, n))
+                .of(compare::kept(&out, size));
+            let asked = asks::all(t, column, bytes, n / 16);
+            print::show(ends(said, bytes, n).tally(again(asked, bytes)));
         }
         Answer::Refused(_) => {
-            t.of(compare::cleared(&work, 0))
-                .of(compare::kept(&out, 0))
-                .show();
+            let t = Tally::new()
+                .of(compare::cleared(&work, 0))
+                .of(compare::kept(&out, 0));
+            print::show(said.tally(t));
         }
-    }
-}
-
-fn down(n: usize, k: usize) -> usize {
-    if k < n { n - k } else { 0 }
-}
-
-fn slope(column: &mut [u32]) {
-    let mut k = 0;
-    while k < column.len() {
-        column[k] = (down(column.len(), k) % 4294967296) as u32;
-        k += 1;
     }
 }
 
 fn falling(n: usize) {
     let mut column = [0u32; 32769];
-    slope(part::counts_mut(&mut column, n));
-    print::text(b"falling ");
-    row(part::counts(&column, n));
+    let some = part::counts_mut(&mut column, n);
+    columns::fill(some, Kind::Falling, 0);
+    row(Line::new().text(b"falling "), some);
 }
 
 fn mixed(n: usize, values: u64) {
     let mut column = [0u32; 32769];
-    random::fill(part::counts_mut(&mut column, n), 1, values);
-    print::text(b"below ");
-    print::decimal(values as usize);
-    print::text(b", ");
-    row(part::counts(&column, n));
+    let some = part::counts_mut(&mut column, n);
+    columns::fill(some, Kind::Random(values), 1);
+    row(Line::new().form(b"below #, ", &[values as usize]), some);
 }
 
 pub fn columns() {

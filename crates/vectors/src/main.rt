@@ -2,26 +2,21 @@
 // each refusal and the order of those that compete, and many columns and byte strings against the rules
 // restated plainly. What is written is compared with the file stdout.
 mod asks;
-mod compare;
 mod damage;
 mod every;
 mod judge;
 mod long;
-mod part;
-mod plain;
 mod print;
 mod random;
 mod refused;
 mod small;
 mod strings;
-mod tally;
 
 fn main() {
     small::columns();
     small::asks();
     small::stand_ins();
-    refused::frames();
-    refused::insides();
+    refused::all();
     long::columns();
     refused::long_columns();
     refused::long_records();

@@ -1,31 +1,14 @@
 // Random columns: build and each lent buffer, check, stand-in, the record again, and every ask.
 use crate::asks;
-use crate::compare;
 use crate::judge;
-use crate::part;
-use crate::plain;
 use crate::print;
-use crate::tally::Tally;
-
-// A number below 2 to the 32, from the one before.
-pub fn next(x: u64) -> u64 {
-    (x % 4294967296 * 1664525 + 1013904223) % 4294967296
-}
-
-// Random entries below `values`.
-pub fn fill(column: &mut [u32], seed: u64, values: u64) {
-    if values == 0 {
-        return;
-    }
-    let mut x = seed;
-    let mut k = 0;
-    let part = 4294967295 / values % 4294967296 + 1;
-    while k < column.len() {
-        x = next(x);
-        column[k] = (x / part % 4294967296) as u32;
-        k += 1;
-    }
-}
+use restated::columns;
+use restated::columns::Kind;
+use restated::compare;
+use restated::part;
+use restated::plain;
+use restated::tally::Tally;
+use shown::Line;
 
 struct Run {
     columns: Tally,
@@ -55,7 +38,7 @@ fn column(run: Run, column: &[u32]) -> Run {
 // A column of n entries.
 fn turn(run: Run, n: usize, values: u64) -> Run {
     let mut entries = [0u32; 200];
-    fill(&mut entries, n as u64, values);
+    columns::fill(&mut entries, Kind::Random(values), n as u64);
     column(run, part::counts(&entries, n))
 }
 
@@ -77,11 +60,9 @@ fn below(values: u64) {
     let run = lengths(values);
     let columns = run.columns;
     let asks = run.asks;
-    print::text(b"201 random columns of entries below ");
-    print::decimal(values as usize);
-    columns.show();
-    print::text(b"every ask of theirs");
-    asks.show();
+    let line = Line::new().form(b"201 random columns of entries below #", &[values as usize]);
+    print::show(line.tally(columns));
+    print::show(Line::new().text(b"every ask of theirs").tally(asks));
 }
 
 pub fn columns() {

@@ -1,6 +1,7 @@
 // The document's small columns and records, with every lent buffer shown whole.
-use crate::part;
 use crate::print;
+use restated::part;
+use shown::Line;
 
 // Build into the first `room` bytes of an output full of EE, with the first `numbers` numbers of a work full
 // of 7; then the whole output and the whole work.
@@ -9,19 +10,12 @@ fn built(column: &[u32], room: usize, numbers: usize) {
     let mut work = [7u16; 6];
     let a = build::build(
         column,
-        part::work_mut(&mut work, numbers),
+        part::numbers_mut(&mut work, numbers),
         part::bytes_mut(&mut out, room),
     );
-    print::text(b"build");
-    print::counts(column);
-    print::into(room);
-    print::with(numbers);
-    print::answer(a);
-    print::text(b";");
-    print::bytes(&out);
-    print::text(b";");
-    print::work(&work);
-    print::end();
+    let line = Line::new().text(b"build").counts(column);
+    let said = line.form(b" into # with #:", &[room, numbers]).answer(a);
+    print::show(said.buffers(&out, &work));
 }
 
 fn five(room: usize, numbers: usize) {
@@ -45,14 +39,9 @@ pub fn columns() {
 }
 
 pub fn ask(bytes: &[u8], i: usize, j: usize) {
-    print::text(b"ask");
-    print::bytes(bytes);
-    print::text(b", ");
-    print::decimal(i);
-    print::text(b"..");
-    print::decimal(j);
-    print::answer(ask::ask(bytes, i, j));
-    print::end();
+    let line = Line::new().text(b"ask").hexes(bytes);
+    let said = line.form(b", #..#:", &[i, j]).answer(ask::ask(bytes, i, j));
+    print::show(said.text(b"\n"));
 }
 
 fn ask_none(i: usize, j: usize) {
@@ -83,13 +72,9 @@ pub fn asks() {
 pub fn stand_in(bytes: &[u8], room: usize) {
     let mut column = [8u32; 6];
     let a = stand_in::stand_in(bytes, part::counts_mut(&mut column, room));
-    print::text(b"stand-in");
-    print::bytes(bytes);
-    print::into(room);
-    print::answer(a);
-    print::text(b";");
-    print::counts(&column);
-    print::end();
+    let line = Line::new().text(b"stand-in").hexes(bytes);
+    let said = line.form(b" into #:", &[room]).answer(a);
+    print::show(said.text(b";").counts(&column).text(b"\n"));
 }
 
 pub fn stand_ins() {

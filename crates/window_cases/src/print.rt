@@ -1,73 +1,31 @@
-// What the rows show: text, numbers, bytes in hexadecimal, answers.
+// What the rows show.
 use answers::Answer;
-use answers::Refusal;
+use restated::part;
+use shown::Line;
 
-pub fn text(s: &[u8]) {
-    io::write_all(1, s);
-}
-
-pub fn decimal(n: usize) {
-    io::print_decimal(1, n as u64);
-}
-
-fn digit(d: u8) -> u8 {
-    if d < 10 {
-        b'0' + d
-    } else {
-        b'A' + (d - 10) % 6
-    }
-}
-
-fn byte(b: u8) {
-    text(&[b' ', digit(b / 16), digit(b % 16)]);
-}
-
-pub fn bytes(s: &[u8]) {
-    let mut k = 0;
-    while k < s.len() {
-        byte(s[k]);
-        k += 1;
-    }
-}
-
-// From one entry to another.
-pub fn range(from: usize, to: usize) {
-    text(b" ");
-    decimal(from);
-    text(b"..");
-    decimal(to);
-}
-
-// The refusal's number in document 01.
-fn number(r: Refusal) -> usize {
-    match r {
-        Refusal::TooManyEntries => 1,
-        Refusal::OutputShort => 2,
-        Refusal::WorkShort => 3,
-        Refusal::Unmarked => 4,
-        Refusal::CutShort => 5,
-        Refusal::UnusedBit => 6,
-        Refusal::Unbalanced => 7,
-        Refusal::OutOfRange => 8,
-        Refusal::Foreign => 9,
-        Refusal::NoRecord => 10,
-        Refusal::BytesAfter => 11,
-        Refusal::DrawerLong => 12,
-        Refusal::UsedWrong => 13,
-        Refusal::DrawerFull => 14,
-    }
+pub fn show(line: Line) {
+    let bytes = line.bytes;
+    let end = line.end;
+    io::write_all(1, part::bytes(&bytes, end));
 }
 
 // A number, or a refusal's with a mark before it.
-pub fn answer(a: Answer) {
+pub fn answer(line: Line, a: Answer) -> Line {
     match a {
-        Answer::Is(v) => {
-            text(b" ");
-            decimal(v);
-        }
-        Answer::Refused(r) => {
-            text(b" !");
-            decimal(number(r));
-        }
+        Answer::Is(v) => line.form(b" #", &[v]),
+        Answer::Refused(r) => line.form(b" !#", &[answers::number_of(r)]),
     }
+}
+
+// A window, and what is said of it.
+pub fn window(line: Line, bytes: &[u8], first: usize, last: usize) -> Line {
+    answer(
+        line.form(b"window #..#:", &[first, last]),
+        window::refusal_of(bytes, first, last),
+    )
+}
+
+// An ask in a window that is made for it.
+pub fn ask(line: Line, bytes: &[u8], first: usize, last: usize, i: usize, j: usize) -> Line {
+    answer(line, window::ask_through(bytes, first, last, i, j))
 }

@@ -1,6 +1,6 @@
 -- `listing::line_at` meets its contract.
 -- Assumes nothing.
-use mathlib.Core.Path.{_≡_, sym, ap, _∙_}
+use mathlib.Core.Path.{_≡_, ap}
 use Prim.Native.Nat.{_+_, _-_, _≤_}
 use native.Mathlib.Omega.{arith}
 use lib.ListN.{length, drop}
@@ -10,25 +10,25 @@ use Rattle.rules.specs.Order.{frameSays}
 use Rattle.rules.proofs.Checked.{says-framed}
 use Rattle.rules.proofs.Drawer.{frame-rest, frame-within}
 use Rattle.answers.specs.Said.{said}
-use Rattle.listing.proofs.Onward.{left-end, left-full, left-fault, left-more, writes}
+use Rattle.listing.proofs.Onward.{left-end, left-full, left-fault, left-more, behind-end, behind-full, behind-record, writes}
 use borrow.Author.Needs.{needs}
 use Rattle.listing.proofs.line_at.Statement.{statement}
 use Rattle.listing.proofs.line_at.Tie as tie
+
+add-count : tie.Need-add-count
+add-count c = search needs
 
 end-requires : tie.Need-end-requires
 end-requires c κs = search needs
 
 returns : tie.Need-returns
-returns c = writes (left-end _ _ _ (c .before .before .if1 .taken)) (c .end .ensures)
+returns c = writes (left-end _ _ _ (c .before .before .if1 .taken)) (behind-end _ _ _ (c .before .before .if1 .taken)) (c .end .ensures)
 
 refused-requires : tie.Need-refused-requires
 refused-requires c κs = search needs
 
-add-t16 : tie.Need-add-t16
-add-t16 c = search needs
-
 returns-2 : tie.Need-returns-2
-returns-2 c = writes (left-full _ _ _ (c .before .before .before .if1 .left) (c .before .before .if2 .taken)) (c .refused .ensures)
+returns-2 c = writes (left-full _ _ _ (c .before .before .before .if1 .left) (c .before .before .if2 .taken)) (behind-full _ _ _ (c .before .before .before .if1 .left) (c .before .before .if2 .taken)) (c .refused .ensures)
 
 sub-frame : tie.Need-sub-frame
 sub-frame c = search needs
@@ -85,30 +85,27 @@ number-of-requires c κs = search needs
 refused-requires-2 : tie.Need-refused-requires-2
 refused-requires-2 c κs = search needs
 
-add-t35 : tie.Need-add-t35
-add-t35 c = search needs
-
 returns-3 : tie.Need-returns-3
 returns-3 c =
     let start = c .before .before .before .before .before .before .before .before .before .before .before in
     let f = framed (c .before .before .before) in
     let size : start .args .at + recordLength (c .before .before .before .before .n .given .0 .0) - start .args .at ≡ recordLength (c .before .before .before .before .n .given .0 .0) = omega arith in
-    writes (left-more _ _ _ (c .before .before .before .before .before .before .before .before .before .if1 .left) _ (c .before .before .before .before .before .before .before .before .if2 .left) f) (rw size at (c .judged .ensures))
+    writes (left-more _ _ _ (c .before .before .before .before .before .before .before .before .before .if1 .left) _ (c .before .before .before .before .before .before .before .before .if2 .left) f) (behind-record _ _ _ (c .before .before .before .before .before .before .before .before .before .if1 .left) (c .before .before .before .before .before .before .before .before .if2 .left) f) (rw size at (c .judged .ensures))
 
 returns-4 : tie.Need-returns-4
 returns-4 c =
     let start = c .before .before .before .before .before .before .before .before .before .before .before in
     let f = frame-rest (start .args .drawer .now) (start .args .at) (ap said (c .before .before .before .before .x .given .1)) (c .before .before .before .before .before .before .frame .ensures) in
-    writes (left-fault _ _ _ (c .before .before .before .before .before .before .before .before .before .if1 .left) _ (c .before .before .before .before .before .before .before .before .if2 .left) f) (rw (c .before .before .number-of .ensures) at (c .refused2 .ensures))
+    writes (left-fault _ _ _ (c .before .before .before .before .before .before .before .before .before .if1 .left) _ (c .before .before .before .before .before .before .before .before .if2 .left) f) (behind-record _ _ _ (c .before .before .before .before .before .before .before .before .before .if1 .left) (c .before .before .before .before .before .before .before .before .if2 .left) f) (rw (c .before .before .number-of .ensures) at (c .refused2 .ensures))
 
 pub line-at-spec : {M : Type 1} → statement M
 line-at-spec =
     tie.close
     (tie.spec
+    add-count
     end-requires
     returns
     refused-requires
-    add-t16
     returns-2
     sub-frame
     part-frame-start
@@ -126,6 +123,5 @@ line-at-spec =
     enum-known-x
     number-of-requires
     refused-requires-2
-    add-t35
     returns-3
     returns-4)

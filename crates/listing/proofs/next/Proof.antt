@@ -31,10 +31,10 @@ returns : tie.Need-returns
 returns c = rw (c .before .before .before .rest .given .1) (c .line-at .ensures)
 
 returns-2 : tie.Need-returns-2
-returns-2 c = rw (c .before .before .before .rest2 .given .1) (writes refl (c .end .ensures))
+returns-2 c = rw (c .before .before .before .rest2 .given .1) (writes refl refl (c .end .ensures))
 
 returns-3 : tie.Need-returns-3
-returns-3 c = rw (c .before .before .enum-told .given .1) (writes refl (c .long .ensures))
+returns-3 c = rw (c .before .before .enum-told .given .1) (writes refl refl (c .long .ensures))
 
 returns-4 : tie.Need-returns-4
 returns-4 c = search needs

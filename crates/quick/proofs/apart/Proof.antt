@@ -1,9 +1,10 @@
--- `quick::apart` meets its contract: the first block's part and the last one's, or a block between.
+-- `quick::apart` meets its contract: a block between where it is lower than all of the first, else the first one's part.
 -- Assumes nothing.
-use mathlib.Core.Logic.{⊎-elim, inl, inr}
+use mathlib.Core.Path.{refl}
 use native.Mathlib.Omega.{arith}
-use Rattle.quick.proofs.Middle.{named, best-low}
-use Rattle.quick.proofs.Joined.{Above, first-wins, first-above, one-between}
+use Rattle.quick.proofs.Finishing.{there}
+use Rattle.quick.proofs.Middle.{best-low}
+use Rattle.quick.proofs.Joined.{first-found, first-there, first-height, leaf-above, one-between}
 use borrow.Author.Needs.{needs}
 use Rattle.quick.proofs.apart.Statement.{statement}
 use Rattle.quick.proofs.apart.Tie as tie
@@ -11,8 +12,8 @@ use Rattle.quick.proofs.apart.Tie as tie
 climb-requires : tie.Need-climb-requires
 climb-requires c κs = search needs
 
-add-mid : tie.Need-add-mid
-add-mid c =
+add-if1 : tie.Need-add-if1
+add-if1 c =
     let start = c .before .before .before .before in
     omega (arith, best-low (start .pre .1) (c .before .climb .ensures))
 
@@ -22,36 +23,51 @@ leaf-requires c κs = search needs
 table-requires : tie.Need-table-requires
 table-requires c κs = search needs
 
-behind-requires : tie.Need-behind-requires
-behind-requires c κs = search needs
-
-finish-requires : tie.Need-finish-requires
-finish-requires c κs = search needs
-
-entry-requires : tie.Need-entry-requires
-entry-requires c κs = search needs
-
-returns : tie.Need-returns
-returns c =
-    let start = c .before .before .before .before .before .before .before .before .before .before .before .before .before .before in
-    let a = start .args in
-    record {
-      allowed = c .entry .ensures .allowed;
-      right = λ n asks at high. named (a .body .now) (a .t .now) n (a .a) (a .b) (a .i) (a .j) asks (start .pre .2 .few) (c .entry .ensures) (first-wins (a .body .now) (a .t .now) n (a .a) (a .b) (a .i) (a .j) asks (start .pre .2 .few) (a .x) (a .e) at high (c .before .before .before .before .before .before .before .before .before .leaf .result) (c .before .before .before .before .before .before .before .before .before .leaf .ensures .0) (start .pre .1) (start .pre .2) (c .before .before .before .before .before .before .before .before .before .before .before .climb .result) (c .before .before .before .before .before .before .before .before .before .before .before .climb .ensures) (c .before .before .before .before .before .behind .result) (c .before .finish .result) (c .before .before .before .before .before .behind .ensures) (c .before .before .before .if2 .taken) (c .before .finish .ensures));
-    }
-
 beyond-requires : tie.Need-beyond-requires
 beyond-requires c κs = search needs
 
-returns-2 : tie.Need-returns-2
-returns-2 c =
+returns : tie.Need-returns
+returns c =
     let start = c .before .before .before .before .before .before .before .before .before in
     let a = start .args in
     let climb = c .before .before .before .before .before .before .climb in
-    let why : Above (a .body .now) (a .a) (a .x) (a .e) (c .before .before .before .before .leaf .result) (climb .result .low) = ⊎-elim (λ w. inl (w .2 .result, w .2 .ensures, omega (arith, w .4 .left))) (λ w. inr (omega (arith, w .left))) (c .before .before .if1 .came) in
     record {
       allowed = c .beyond .ensures .allowed;
-      right = λ n asks at high. c .beyond .ensures .right n asks (first-above (a .body .now) (a .t .now) n (a .a) (a .b) (a .i) (a .j) asks (start .pre .2 .few) (a .x) (a .e) at high (c .before .before .before .before .leaf .result) (c .before .before .before .before .leaf .ensures .0) (start .pre .1) (start .pre .2) (climb .result) why) (one-between (a .body .now) (a .t .now) n (a .a) (a .b) (a .i) (a .j) asks (start .pre .2 .few) (a .x) (a .e) at high (c .before .before .before .before .leaf .result) (c .before .before .before .before .leaf .ensures .0) (start .pre .1) (start .pre .2) (climb .result) why (climb .ensures));
+      right = λ n asks.
+          let above = leaf-above (a .body .now) (a .t .now) n (a .a) (a .b) (a .i) (a .j) asks (start .pre .2 .few) (start .pre .1) (climb .result .low) (c .before .before .before .before .leaf .result) (c .before .before .before .before .leaf .ensures .0) (c .before .before .before .if1 .taken) in
+          c .beyond .ensures .right n asks above (one-between (a .body .now) (a .t .now) n (a .a) (a .b) (a .i) (a .j) asks (start .pre .2 .few) (start .pre .1) (climb .result) above (climb .ensures));
+    }
+
+stands-requires : tie.Need-stands-requires
+stands-requires c κs = search needs
+
+returns-2 : tie.Need-returns-2
+returns-2 c =
+    let start = c .before .before .before .before .before .before .before .before in
+    let a = start .args in
+    record { allowed = refl; right = λ n asks. absurd (first-there (a .body .now) (a .t .now) n (a .a) (a .b) (a .i) (a .j) asks (start .pre .2 .few) (c .before .stands .ensures) (c .if2 .taken)) }
+
+excess-after-requires : tie.Need-excess-after-requires
+excess-after-requires c κs =
+    let start = c .before .before .before .before .before .before .before .before in
+    let a = start .args in
+    (omega (arith, there (c .before .stands .ensures) (c .if2 .left) .within, start .pre .0 .lent .few), omega arith)
+
+from-first-requires : tie.Need-from-first-requires
+from-first-requires c κs =
+    let start = c .before .before .before .before .before .before .before .before .before in
+    let a = start .args in
+    (start .pre .0, start .pre .1, start .pre .2, start .pre .4, there (c .before .before .stands .ensures) (c .before .if2 .left), c .excess-after .ensures .1, c .before .before .before .before .before .before .climb .ensures)
+
+returns-3 : tie.Need-returns-3
+returns-3 c =
+    let start = c .before .before .before .before .before .before .before .before .before .before in
+    let a = start .args in
+    record {
+      allowed = c .from-first .ensures .allowed;
+      right = λ n asks.
+          let at = first-found (a .body .now) (a .t .now) n (a .a) (a .b) (a .i) (a .j) asks (start .pre .2 .few) (c .before .before .before .stands .ensures) in
+          c .from-first .ensures .right n asks at (first-height (a .body .now) (a .t .now) n (a .a) (a .b) (a .i) (a .j) asks (start .pre .2 .few) at (c .before .excess-after .ensures .0));
     }
 
 pub apart-spec : {M : Type 1} → statement M
@@ -59,12 +75,13 @@ apart-spec =
     tie.close
     (tie.spec
     climb-requires
-    add-mid
+    add-if1
     leaf-requires
     table-requires
-    behind-requires
-    finish-requires
-    entry-requires
-    returns
     beyond-requires
-    returns-2)
+    returns
+    stands-requires
+    returns-2
+    excess-after-requires
+    from-first-requires
+    returns-3)

@@ -1,9 +1,7 @@
 -- `listing::lines::accepted` meets its contract.
 -- Assumes nothing.
-use mathlib.Core.Path.{ap}
 use native.Mathlib.Omega.{arith}
-use mathlib.Core.List.{_++_}
-use Rattle.rules.specs.Listing.{blank, decimal, shapeLine}
+use Rattle.rules.specs.Listing.{blank, shapeLine}
 use Rattle.rules.proofs.Checked.{says-checked}
 use Rattle.listing.proofs.Writing.{wrote-both, wrote-three}
 use Rattle.listing.proofs.Parens.{readable, shown-length}

@@ -1,6 +1,6 @@
 -- `scan::Scan::eight` meets its contract: counted where nothing can go below the smallest, else byte by byte.
 -- Assumes nothing.
-use mathlib.Core.Path.{_≡_, _∙_}
+use mathlib.Core.Path.{_≡_}
 use Prim.Native.Nat.{_+_, _-_}
 use native.Mathlib.Omega.{arith}
 use borrow.Author.Needs.{needs}

@@ -46,8 +46,8 @@ pub fn frame(bytes: &[u8]) -> Answer
     Answer::Is(n)
 }
 
-// Whether the parentheses of a whole record are balanced: each byte is read once through the table.
-// The unused bits of the last byte are read as openings, which are never the smallest.
+// Whether the parentheses of a whole record are balanced, by one scan of its bytes. The unused bits of
+// the last byte are read as openings, which are never the smallest.
 fn in_balance(t: &[i8; 768], bytes: &[u8], n: usize) -> bool
     requires { ⌜ (now t ≡ rows) × Whole (now bytes) n × (0 < n) ⌝ }
     ensures { λ r. ⌜ r ≡ balanced (parens n (now (bytes .entry))) ⌝ }

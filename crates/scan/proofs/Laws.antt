@@ -1,6 +1,6 @@
 -- Laws of the scan: one stretch after another, and how far a stretch can carry a state.
 -- Assumes nothing.
-use mathlib.Core.Path.{_≡_, refl, ap, sym, _∙_}
+use mathlib.Core.Path.{_≡_, refl, ap, sym, subst⁻¹, _∙_}
 use Prim.Native.Nat.{ℕ, zero, suc, pred, min, _+_, _-_, _*_, _≤_, _<_}
 use native.Mathlib.Nat.{add-zero, add-suc, suc-add, zero-add, le-refl, le-trans}
 use native.Mathlib.Omega.{arith}
@@ -58,6 +58,9 @@ ready-fewer st j k h ready =
     let r = ready .room in
     let u = ready .high in
     record { room = omega arith; high = omega arith; bound = ready .bound }
+
+pub ready-same : {x y : Scan} (k : ℕ) → x ≡ y → Ready y k → Ready x k
+ready-same k e r = subst⁻¹ (λ (st : Scan). Ready st k) e r
 
 -- the smallest never rises
 pub scan-below : (st : Scan) (p : ℕ) (s : List Paren) → scanOf st p s .smallest ≤ st .smallest

@@ -1,6 +1,6 @@
 // The byte table and the scan state of document 01, "The summary": whole bytes are read through a
-// table of 256 rows of three. Everything above reads parentheses through Scan::byte and never sees
-// the table's rows.
+// table of 256 rows of three. Whatever seeks a smallest excess reads parentheses through Scan and never
+// sees the table's rows.
 pub mod mask;
 mod rows;
 

@@ -1,18 +1,15 @@
 -- `scan::Scan::bytes` meets its contract. The loop's invariant: the state is that after the first k bytes.
 -- Assumes nothing.
-use mathlib.Core.Path.{_≡_, ap, subst⁻¹, _∙_}
-use Prim.Native.Nat.{ℕ, _+_, _*_, _-_, _≤_}
+use mathlib.Core.Path.{_≡_, ap, _∙_}
+use Prim.Native.Nat.{_+_, _*_, _-_, _≤_}
 use native.Mathlib.Omega.{arith}
 use lib.ListN.{length, take, drop, length-take, length-drop}
 use Rattle.rules.specs.Bytes.{allBits}
 use Rattle.scan.specs.declared.Scan.{Scan}
-use Rattle.scan.specs.Scan.{Ready, scanOf}
-use Rattle.scan.proofs.Laws.{scanned, scanned-none, scanned-all, scanned-ready, scanned-on}
+use Rattle.scan.specs.Scan.{scanOf}
+use Rattle.scan.proofs.Laws.{ready-same, scanned, scanned-none, scanned-all, scanned-ready, scanned-on}
 use Rattle.scan.proofs.Scan.bytes.Statement.{statement}
 use Rattle.scan.proofs.Scan.bytes.Tie as tie
-
-ready : {x y : Scan} (k : ℕ) → x ≡ y → Ready y k → Ready x k
-ready k e r = subst⁻¹ (λ (st : Scan). Ready st k) e r
 
 abbrev Inv-loop : tie.InvT-loop
 Inv-loop t part at st₀ k₀ st k = (k ≤ length part) × (st ≡ scanned st₀ at part k)
@@ -37,7 +34,7 @@ eight-requires : tie.Need-eight-requires Inv-loop μ-loop
 eight-requires c κs =
     let loop = c .before in
     let start = loop .before .before in
-    (start .pre .0, ready 64 (loop .loop .inv .1) (scanned-ready (start .args .self) (start .args .at) (loop .loop .k) 8 (start .args .part .now) (omega arith) (start .pre .1)), omega arith, omega arith)
+    (start .pre .0, ready-same 64 (loop .loop .inv .1) (scanned-ready (start .args .self) (start .args .at) (loop .loop .k) 8 (start .args .part .now) (omega arith) (start .pre .1)), omega arith, omega arith)
 
 add-k : tie.Need-add-k Inv-loop μ-loop
 add-k c = omega arith
@@ -75,7 +72,7 @@ each-requires c κs =
     let bs = start .args .part .now in
     let k = loop .loop .k in
     let e : length (take (length bs - k) (drop k bs)) ≡ length bs - k = simp (length-take, length-drop) (omega arith) in
-    (start .pre .0, rw e (ready (8 * (length bs - k)) (loop .loop .inv .1) (scanned-ready (start .args .self) (start .args .at) k (length bs - k) bs (omega arith) (start .pre .1))), omega arith)
+    (start .pre .0, rw e (ready-same (8 * (length bs - k)) (loop .loop .inv .1) (scanned-ready (start .args .self) (start .args .at) k (length bs - k) bs (omega arith) (start .pre .1))), omega arith)
 
 returns : tie.Need-returns Inv-loop μ-loop
 returns c =

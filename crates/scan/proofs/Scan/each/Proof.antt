@@ -1,18 +1,15 @@
 -- `scan::Scan::each` meets its contract. The loop's invariant: the state is that after the first k bytes.
 -- Assumes nothing.
-use mathlib.Core.Path.{_≡_, ap, subst⁻¹, _∙_}
+use mathlib.Core.Path.{_≡_, ap, _∙_}
 use Prim.Native.Nat.{_+_, _*_, _-_, _≤_}
 use native.Mathlib.Omega.{arith}
 use lib.ListN.{length, getD}
 use Rattle.rules.specs.Bytes.{lowBits}
 use Rattle.scan.specs.declared.Scan.{Scan}
-use Rattle.scan.specs.Scan.{Ready, scanOf}
-use Rattle.scan.proofs.Laws.{scanned, scanned-none, scanned-all, scanned-ready, scanned-more}
+use Rattle.scan.specs.Scan.{scanOf}
+use Rattle.scan.proofs.Laws.{ready-same, scanned, scanned-none, scanned-all, scanned-ready, scanned-more}
 use Rattle.scan.proofs.Scan.each.Statement.{statement}
 use Rattle.scan.proofs.Scan.each.Tie as tie
-
-ready : {x y : Scan} → x ≡ y → Ready y 8 → Ready x 8
-ready e r = subst⁻¹ (λ (st : Scan). Ready st 8) e r
 
 abbrev Inv-loop : tie.InvT-loop
 Inv-loop t part at st₀ k₀ st k = (k ≤ length part) × (st ≡ scanned st₀ at part k)
@@ -37,7 +34,7 @@ byte-requires : tie.Need-byte-requires Inv-loop μ-loop
 byte-requires c κs =
     let loop = c .before .before in
     let start = loop .before .before in
-    (start .pre .0, ready (loop .loop .inv .1) (scanned-ready (start .args .self) (start .args .at) (loop .loop .k) 1 (start .args .part .now) (omega arith) (start .pre .1)), omega arith)
+    (start .pre .0, ready-same 8 (loop .loop .inv .1) (scanned-ready (start .args .self) (start .args .at) (loop .loop .k) 1 (start .args .part .now) (omega arith) (start .pre .1)), omega arith)
 
 add-k : tie.Need-add-k Inv-loop μ-loop
 add-k c = omega arith

@@ -17,7 +17,8 @@ use Rattle.rules.proofs.Bytes.{allBits-length}
 use Rattle.rules.proofs.Checked.{Checked, says-checked, parens-length}
 use Rattle.rules.proofs.Counted.{excess-counts, least-closes, between-raised}
 use Rattle.scan.specs.declared.Scan.{Scan}
-use Rattle.ask.specs.Between.{ground, seenFrom, seenBetween, Asked, Taken}
+use Rattle.ask.specs.Part.{ground}
+use Rattle.ask.specs.Between.{seenFrom, seenBetween, Asked, Taken}
 
 -- where a scan has ended, the closing that it names is the answer's
 pub record Names (end : Scan) (entry : ℕ) : Type 0 where

@@ -19,15 +19,11 @@ use Rattle.scan.specs.declared.Scan.{Scan}
 use Rattle.scan.specs.Scan.{scanOf, Ready}
 use Rattle.scan.proofs.Laws.{scan-append, ready-after}
 use Rattle.ask.specs.Byte.{begun, Begins}
-use Rattle.ask.specs.Part.{Ahead, Stops}
-use Rattle.ask.specs.Between.{ground, seenBetween, Asked}
+use Rattle.ask.specs.Part.{ground, outset, Ahead, Stops}
+use Rattle.ask.specs.Between.{seenBetween, Asked}
 use Rattle.ask.specs.declared.part.Stop.{Stop}
 use Rattle.ask.proofs.Seek.{scan-counts, bits-more, bits-length, passed}
 use Rattle.ask.proofs.Seen.{scan-seen}
-
--- nothing has been read
-abbrev pub start : Scan
-start = record { excess = ground; smallest = 0; place = 0 }
 
 -- the excess after closing i, as the code works it out from where it stands
 abbrev pub excessAt : ℕ → Stop → ℕ
@@ -37,7 +33,7 @@ excessAt i r = ground + 8 * r .byte + r .bit - 2 * i - 1
 abbrev pub onward : ℕ → Stop → List Paren → Scan
 onward i r l = scanOf (begun (excessAt i r) (8 * r .byte + r .bit)) (8 * r .byte + r .bit + 1) l
 
-module _ {bs : List ℕ} {i j : ℕ} {r : Stop} (q : Asked bs i j) (w : Stops start 0 bs i r) where
+module _ {bs : List ℕ} {i j : ℕ} {r : Stop} (q : Asked bs i j) (w : Stops outset 0 bs i r) where
   abbrev s : List Paren
   s = allBits bs
 
@@ -117,7 +113,7 @@ module _ {bs : List ℕ} {i j : ℕ} {r : Stop} (q : Asked bs i j) (w : Stops st
   -- ---- how many closings there are before that byte
 
   level : r .scan .excess + 2 * passed bs (r .byte) ≡ ground + 8 * r .byte
-  level = rw (w .scan) (scan-counts start 0 u (omega (arith, before, byte-low)) ∙ ap (ground +_) before)
+  level = rw (w .scan) (scan-counts outset 0 u (omega (arith, before, byte-low)) ∙ ap (ground +_) before)
 
   pub before-fits : r .scan .excess ≤ 8 * r .byte + ground
   before-fits = omega (arith, level)

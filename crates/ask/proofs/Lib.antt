@@ -1,6 +1,7 @@
 pub mod Opened
 pub mod Fillers
 pub mod Seek
+pub mod Found
 pub mod Seen
 pub mod FromClosing
 pub mod Answered

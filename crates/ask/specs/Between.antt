@@ -10,10 +10,7 @@ use Rattle.rules.specs.Bytes.{allBits, entries}
 use Rattle.rules.specs.Refusal.{answer}
 use Rattle.rules.specs.Order.{checkSays}
 use Rattle.scan.specs.declared.Scan.{Scan}
-
--- excesses are counted from here: a record has at most 65,536 parentheses, so none is below 0
-abbrev pub ground : ℕ
-ground = 65536
+use Rattle.ask.specs.Part.{ground}
 
 -- a scan that began with place a and has read k places more, c being the excesses
 unfoldable pub seenFrom : List ℕ → ℕ → ℕ → Scan

@@ -8,6 +8,15 @@ use Rattle.rules.specs.Bytes.{allBits}
 use Rattle.scan.specs.declared.Scan.{Scan}
 use Rattle.scan.specs.Scan.{Ready, scanOf}
 use Rattle.ask.specs.declared.part.Stop.{Stop}
+use Rattle.ask.specs.declared.part.Skipped.{Skipped}
+
+-- excesses are counted from here: a record has at most 65,536 parentheses, so none is below 0
+abbrev pub ground : ℕ
+ground = 65536
+
+-- nothing has been read, and no excess will be the smallest
+abbrev pub outset : Scan
+outset = record { excess = ground; smallest = 0; place = 0 }
 
 -- closing number k of the bytes bs is ahead of a scan in state st, which can read them all; the first parenthesis stands at place at
 pub record Ahead (st : Scan) (at : ℕ) (bs : List ℕ) (k : ℕ) : Type 0 where
@@ -21,3 +30,9 @@ pub record Stops (st : Scan) (at : ℕ) (bs : List ℕ) (k : ℕ) (r : Stop) : T
   pub bit : r .bit < 8
   pub stands : 8 * r .byte + r .bit ≡ closingPlace (allBits bs) k
   pub scan : r .scan ≡ scanOf st at (allBits (take (r .byte) bs))
+
+-- r tells of some bytes that are all before closing number k's: how many, and the closings among them
+pub record Skips (bs : List ℕ) (k : ℕ) (r : Skipped) : Type 0 where
+  pub within : r .bytes ≤ length bs
+  pub counted : r .closings ≡ closings (allBits (take (r .bytes) bs))
+  pub ahead : r .closings ≤ k

@@ -1,10 +1,11 @@
-// Plain ask: from a record alone. Behind the record check each byte up to closing j's is read through
-// the table, and none but the two closings' own more than once.
+// Plain ask: from a record alone. Behind the record check the bytes before closing i's are counted, and each
+// from there to closing j's is read through the table.
 pub mod byte;
 pub mod part;
 
 use answers::Answer;
 use answers::Refusal;
+use part::GROUND;
 use scan::Scan;
 ghost use mathlib.Core.Path.{_≡_};
 ghost use Prim.Native.Nat.{_+_, _-_, _/_, _≤_};
@@ -13,10 +14,8 @@ ghost use Rattle.rules.specs.Bytes.{entries, parens, allBits};
 ghost use Rattle.rules.specs.Order.{askSays};
 ghost use Rattle.scan.specs.Rows.{rows};
 ghost use Rattle.answers.specs.Said.{said};
-ghost use Rattle.ask.specs.Between.{ground, seenBetween, Asked, Taken};
-
-// Excesses are counted from here: a record has at most 65,536 parentheses, so none is below 0.
-const GROUND: usize = 65536;
+ghost use Rattle.ask.specs.Part.{ground};
+ghost use Rattle.ask.specs.Between.{seenBetween, Asked, Taken};
 
 // The closings among the first p parentheses, after which the excess is e: each takes two off p.
 fn closings(p: usize, e: usize) -> usize
@@ -32,12 +31,7 @@ fn lowest(t: &[i8; 768], body: &[u8], i: usize, j: usize) -> Scan
     requires { ⌜ (now t ≡ rows) × Asked (now body) i j ⌝ }
     ensures { λ r. ⌜ r ≡ seenBetween (allBits (now (body .entry))) i j ⌝ }
 {
-    let start = Scan {
-        excess: GROUND,
-        smallest: 0,
-        place: 0,
-    };
-    let first = part::seek(start, t, body, 0, i);
+    let first = part::find(t, body, i);
     let a = first.byte;
     let x = first.bit;
     let b = body[a];
@@ -54,12 +48,11 @@ fn lowest(t: &[i8; 768], body: &[u8], i: usize, j: usize) -> Scan
 }
 
 // The entry whose closing is the leftmost place of smallest excess from closing i to closing j.
-fn between(bytes: &[u8], i: usize, j: usize) -> usize
-    requires { ⌜ Taken (now bytes) i j ⌝ }
+fn between(t: &[i8; 768], bytes: &[u8], i: usize, j: usize) -> usize
+    requires { ⌜ (now t ≡ rows) × Taken (now bytes) i j ⌝ }
     ensures { λ r. ⌜ r ≡ entryBetween (parens (entries (now (bytes .entry))) (now (bytes .entry))) i j ⌝ }
 {
-    let t = scan::table();
-    let end = lowest(&t, &bytes[4..], i, j);
+    let end = lowest(t, &bytes[4..], i, j);
     closings(end.place + 1, end.smallest) - 1
 }
 
@@ -68,13 +61,14 @@ fn between(bytes: &[u8], i: usize, j: usize) -> usize
 pub fn ask(bytes: &[u8], i: usize, j: usize) -> Answer
     ensures { λ r. ⌜ said r ≡ askSays (now (bytes .entry)) i j ⌝ }
 {
-    match checks::check(bytes) {
+    let t = scan::table();
+    match checks::check_through(&t, bytes) {
         Answer::Is(n) => {
             if j < i {
                 return Answer::Refused(Refusal::OutOfRange);
             }
             if j < n {
-                return Answer::Is(between(bytes, i, j));
+                return Answer::Is(between(&t, bytes, i, j));
             }
             Answer::Refused(Refusal::OutOfRange)
         }

@@ -9,8 +9,9 @@ use lib.Dec.{T, ltb, eqb, ltb→lt, eqb→eq, lit<}
 use Rattle.rules.specs.Excess.{closings}
 use Rattle.rules.specs.Bytes.{lowBits, paren}
 use Rattle.rules.proofs.Every.{allBelow, below-at}
+use Rattle.words.proofs.Low.{lowBits-low}
 use Rattle.blocks.specs.Select.{joined, countAt}
-use Rattle.blocks.proofs.Bits.{lowBits-low, closings-few}
+use Rattle.blocks.proofs.Bits.{closings-few}
 use Rattle.blocks.proofs.Lanes.{Few, joined-below, joined-same, joined-add, joined-sub, joined-and, joined-shr, byteAt, joined-bytes}
 
 -- ---- what is done to each byte

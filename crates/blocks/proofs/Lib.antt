@@ -1,7 +1,6 @@
 pub mod Bits
 pub mod Nibbles
 pub mod Selects
-pub mod Loaded
 pub mod Lanes
 pub mod Counts
 pub mod Sums

@@ -9,7 +9,8 @@ use lib.Dec.{T, ltb, eqb, eqb→eq}
 use Rattle.rules.specs.Excess.{closings, closingPlace}
 use Rattle.rules.specs.Bytes.{lowBits, paren}
 use Rattle.rules.proofs.Every.{allBelow, below-at}
-use Rattle.blocks.proofs.Bits.{lowBits-low, closings-few}
+use Rattle.words.proofs.Low.{lowBits-low}
+use Rattle.blocks.proofs.Bits.{closings-few}
 
 -- as the code works it out
 abbrev pub counted : ℕ → ℕ

@@ -4,14 +4,14 @@ use mathlib.Core.Path.{_≡_, refl, ap, sym, _∙_}
 use Prim.Native.Nat.{ℕ, _+_, _-_, _*_, _/_, _≤_, _<_, zero-le}
 use native.Mathlib.Omega.{arith}
 use mathlib.Core.Bool.{Bool, true, false}
-use mathlib.Core.List.{List, [], _++_, append-nil}
+use mathlib.Core.List.{List, [], _++_}
 use borrow.Author.Tests.{ltb-true, ltb-false, lt-ltb, le-ltb}
 use lib.Dec.{ltb}
-use lib.ListN.{length, take, drop, getD, length-append, length-take, length-drop, take-append-drop, drop-of-length-le}
-use lib.Seq.{take-append-le, drop-drop, drop-cons}
+use lib.ListN.{length, take, drop, length-append, length-take, length-drop, take-append-drop, drop-of-length-le}
+use lib.Seq.{take-append-le, drop-drop}
 use Rattle.rules.specs.Shape.{Paren}
 use Rattle.rules.specs.Excess.{closings, closingPlace}
-use Rattle.rules.specs.Bytes.{lowBits, allBits}
+use Rattle.rules.specs.Bytes.{allBits}
 use Rattle.rules.proofs.Excess.{closings-append}
 use Rattle.rules.proofs.ClosingPlace.{closing-within}
 use Rattle.rules.proofs.Bytes.{allBits-length, allBits-append}
@@ -91,8 +91,3 @@ module _ (bs : List ℕ) (at j k : ℕ) (s : List Paren) (room : at + j ≤ leng
 pub sought-end : (bs : List ℕ) (at k : ℕ) → length bs ≤ at → sought bs at k ≡ 8 * at
 unfolding sought allBits
 sought-end bs at k h = rw (drop-of-length-le bs {i = at} h, select-nil k) (omega arith)
-
--- one byte
-pub one-byte : (bs : List ℕ) (at : ℕ) → at < length bs → allBits (take 1 (drop at bs)) ≡ lowBits 8 (getD bs at 0)
-unfolding allBits
-one-byte bs at h = rw (drop-cons bs at 0 h) (append-nil (lowBits 8 (getD bs at 0)))

@@ -4,20 +4,15 @@ use Prim.Native.Nat.{ℕ, zero, suc, _+_, _*_, _/_, _^_, _≤_, _<_}
 use mathlib.Core.Bool.{cond}
 use mathlib.Core.List.{List}
 use lib.Dec.{ltb}
-use lib.ListN.{length, take, drop}
+use lib.ListN.{length}
 use Rattle.rules.specs.Shape.{Paren}
 use Rattle.rules.specs.Excess.{closings, closingPlace}
-use Rattle.rules.specs.Bytes.{lowBits, allBits}
+use Rattle.rules.specs.Bytes.{lowBits}
 use Rattle.blocks.specs.declared.byte.Narrow.{Narrow}
 
 -- the place of closing number k, or the end where there are not so many
 unfoldable pub selectOf : List Paren → ℕ → ℕ
 selectOf s k = cond (ltb k (closings s)) (closingPlace s k) (length s)
-
--- the j bytes from number at on as one number
-pub record Loads (j : ℕ) (bs : List ℕ) (at r : ℕ) : Type 0 where
-  pub fits : r < 2 ^ (8 * j)
-  pub bits : lowBits (8 * j) r ≡ allBits (take j (drop at bs))
 
 -- the number whose n bytes are a 0, a 1, .. , a (n - 1), lowest first
 unfoldable pub joined : ℕ → (ℕ → ℕ) → ℕ

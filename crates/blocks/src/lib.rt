@@ -44,7 +44,7 @@ pub fn select(part: &[u8], k: usize) -> usize
     let mut at = 0;
     let mut left = k;
     while at + 8 <= part.len() {
-        let bits = word::word(part, at);
+        let bits = words::word(part, at);
         let sums = word::sums(bits);
         let c = (sums >> 56) as usize;
         if left < c {

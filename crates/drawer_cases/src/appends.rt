@@ -49,7 +49,7 @@ fn one(seen: &mut [usize; 15], row: [usize; 5]) {
         part::bytes_mut(&mut buffer, row[1]),
         row[2],
         some,
-        part::work_mut(&mut work, row[4]),
+        part::numbers_mut(&mut work, row[4]),
     );
     left(seen, inputs, &buffer, &work, a);
 }

@@ -7,17 +7,10 @@ use crate::print;
 use crate::seen;
 use answers::Answer;
 use restated::columns;
+use restated::compare;
 use restated::part;
 use restated::sums;
 use shown::Line;
-
-// The new used length; the old one where the append was refused.
-fn used(a: Answer, old: usize) -> usize {
-    match a {
-        Answer::Is(v) => v,
-        Answer::Refused(_) => old,
-    }
-}
 
 // One append behind the used bytes, with everything shown.
 fn next(
@@ -30,7 +23,7 @@ fn next(
     let line = Line::new().text(b"append").counts(column);
     let a = append::append(buffer, old, column, work);
     appends::left(seen, line.form(b" behind #:", &[old]), buffer, work, a);
-    used(a, old)
+    compare::value(a, old)
 }
 
 // Three records, and a fourth for which a byte is missing.
@@ -52,7 +45,7 @@ pub fn last(seen: &mut [usize; 15]) {
     drawers::fill(part::bytes_mut(&mut buffer, 283), Kind::InTurn);
     let a = append::append(&mut buffer, 283, &[4, 2, 4, 2, 9], &mut work);
     seen::answer(seen, a);
-    let end = used(a, 283);
+    let end = compare::value(a, 283);
     let b = append::append(&mut buffer, end, &[], &mut work);
     seen::answer(seen, b);
     let line = Line::new().text(b"behind 63 records\n").answer(a).answer(b);
@@ -67,7 +60,7 @@ fn grow(seen: &mut [usize; 15], buffer: &mut [u8], work: &mut [u16], column: &[u
     while k < 70 {
         let a = append::append(buffer, end, part::counts(column, k), work);
         seen::answer(seen, a);
-        end = used(a, end);
+        end = compare::value(a, end);
         k += 1;
     }
     end

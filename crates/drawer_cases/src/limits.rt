@@ -88,7 +88,7 @@ fn appended(buffer: &mut [u8], work: &mut [u16], row: [usize; 5]) -> Answer {
         part::bytes_mut(buffer, row[2]),
         row[3],
         part::counts(&column, row[1]),
-        part::work_mut(work, row[4]),
+        part::numbers_mut(work, row[4]),
     )
 }
 

@@ -27,22 +27,22 @@ use Rattle.quick.proofs.Parts.{bits-byte, bits-some, Reads, reads}
 pub place-low : (b i : ℕ) → i < closings (lowBits 8 b) → closingPlace (lowBits 8 b) i < 8
 place-low b i h = omega (arith, closing-within (lowBits 8 b) i h, lowBits-length 8 b)
 
-module _ (here : Scan) (m b j : ℕ) where
+module _ (here : Scan) (at b j : ℕ) where
   -- where the closing is not in this byte, the excess was no true one
-  pub ends-before : 2 * j + here .excess < 8 * m + ground → EndsIn here m b j here
+  pub ends-before : 2 * j + here .excess < at + ground → EndsIn here at b j here
   ends-before h = record { bound = le-refl _; right = λ i e l. absurd (omega arith) }
 
-  pub ends-behind : closings (lowBits 8 b) ≤ (2 * j + here .excess - (8 * m + ground)) / 2 → EndsIn here m b j here
+  pub ends-behind : closings (lowBits 8 b) ≤ (2 * j + here .excess - (at + ground)) / 2 → EndsIn here at b j here
   ends-behind h = record { bound = le-refl _; right = λ i e l. absurd (omega arith) }
 
-  pub ends-there : (x : ℕ) (r : Scan) → x ≡ closingPlace (lowBits 8 b) ((2 * j + here .excess - (8 * m + ground)) / 2)
-      → r ≡ scanOf here (8 * m) (take (x + 1) (lowBits 8 b)) → EndsIn here m b j r
-  ends-there x r at is =
+  pub ends-there : (x : ℕ) (r : Scan) → x ≡ closingPlace (lowBits 8 b) ((2 * j + here .excess - (at + ground)) / 2)
+      → r ≡ scanOf here at (take (x + 1) (lowBits 8 b)) → EndsIn here at b j r
+  ends-there x r stands is =
       record {
-        bound = rw is (scan-below here (8 * m) (take (x + 1) (lowBits 8 b)));
+        bound = rw is (scan-below here at (take (x + 1) (lowBits 8 b)));
         right = λ i e l.
-            let f : (2 * j + here .excess - (8 * m + ground)) / 2 ≡ i = omega arith in
-            is ∙ ap (λ (p : ℕ). scanOf here (8 * m) (take (p + 1) (lowBits 8 b))) (at ∙ ap (closingPlace (lowBits 8 b)) f);
+            let f : (2 * j + here .excess - (at + ground)) / 2 ≡ i = omega arith in
+            is ∙ ap (λ (p : ℕ). scanOf here at (take (p + 1) (lowBits 8 b))) (stands ∙ ap (closingPlace (lowBits 8 b)) f);
       }
 
 -- ---- the bytes before it
@@ -174,7 +174,7 @@ module _ (body : List ℕ) (k j : ℕ) (st : Scan) where
             }
 
         -- more than j do: the closing stands in this byte
-        pub reach-found : Lent body → (stop : ℕ) (r : Scan) → 2 * j + 2 + next .excess ≤ 8 * m + 8 + ground → EndsIn here m (getD body m 0) j r → Reaches body k j st stop r
+        pub reach-found : Lent body → (stop : ℕ) (r : Scan) → 2 * j + 2 + next .excess ≤ 8 * m + 8 + ground → EndsIn here (8 * m) (getD body m 0) j r → Reaches body k j st stop r
         reach-found lent stop r more ends =
             record {
               bound = le-trans (ends .bound) (walk .bound);

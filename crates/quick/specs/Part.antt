@@ -62,13 +62,13 @@ pub record GoesOn (body : List ℕ) (a b : ℕ) (st : Scan) (stop : ℕ) (r : Sc
   pub bound : r .smallest ≤ st .smallest
   pub right : st .excess ≡ level body a → Bounds body a b stop → Beats (height body) a b (st .smallest) (st .place) r
 
--- byte m, b, behind state here, up to closing number j of the body: closing i of the byte, by the excess before it
-pub record EndsIn (here : Scan) (m b j : ℕ) (r : Scan) : Type 0 where
+-- byte b, whose first bit stands at place at, in state here, up to closing number j of the body: up to closing i of the byte, by the excess before it
+pub record EndsIn (here : Scan) (at b j : ℕ) (r : Scan) : Type 0 where
   pub bound : r .smallest ≤ here .smallest
-  pub right : (i : ℕ) → 2 * j + here .excess ≡ 2 * i + (8 * m + ground) → i < closings (lowBits 8 b)
-      → r ≡ scanOf here (8 * m) (take (closingPlace (lowBits 8 b) i + 1) (lowBits 8 b))
+  pub right : (i : ℕ) → 2 * j + here .excess ≡ 2 * i + (at + ground) → i < closings (lowBits 8 b)
+      → r ≡ scanOf here at (take (closingPlace (lowBits 8 b) i + 1) (lowBits 8 b))
 
--- from the start of block k on, in state st, up to closing number j of the body: there where it stands in the block
+-- from the start of block k on, in state st, up to closing number j of the body, where it stands in that block
 pub record Reaches (body : List ℕ) (k j : ℕ) (st : Scan) (stop : ℕ) (r : Scan) : Type 0 where
   pub bound : r .smallest ≤ st .smallest
   pub right : j < closings (allBits body) → closingPlace (allBits body) j / 256 ≡ k

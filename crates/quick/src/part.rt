@@ -50,26 +50,27 @@ pub fn behind(t: &[i8; 768], body: &[u8], k: usize, x: usize, e: usize, stop: us
     run(here, t, &body[next..end], 8 * next, stop)
 }
 
-// The byte m, b, up to closing number j of the body, behind state here. Where the excess is no true one, so
-// that the closing is not in this byte, nothing of it.
-fn last(here: Scan, t: &[i8; 768], m: usize, b: u8, j: usize) -> Scan
-    requires { ⌜ (now t ≡ rows) × Ready here 8 × (m ≤ 8192) × (j < 32768) ⌝ }
-    ensures { λ r. ⌜ EndsIn here m b j r ⌝ }
+// Byte b, whose first bit stands at place at, up to closing number j of the body. Where the excess is no true
+// one, so that the closing is not in this byte, nothing of it.
+fn last(here: Scan, t: &[i8; 768], at: usize, b: u8, j: usize) -> Scan
+    requires { ⌜ (now t ≡ rows) × Ready here 8 × (at ≤ 65536) × (j < 32768) ⌝ }
+    ensures { λ r. ⌜ EndsIn here at b j r ⌝ }
 {
+    // Before the byte stand (base - excess) / 2 closings.
+    let base = at + GROUND;
     let up = 2 * j + here.excess;
-    let even = 8 * m + GROUND;
-    if up < even {
+    if up < base {
         return here;
     }
     let n = Narrow {
         bits: b as u64,
-        k: (up - even) / 2,
+        k: (up - base) / 2,
         at: 0,
     };
     if blocks::byte::count_eight(n.bits) <= n.k {
         return here;
     }
-    ask::byte::upto(here, t, 8 * m, b, blocks::byte::nth(n) as u32 + 1)
+    ask::byte::upto(here, t, at, b, blocks::byte::nth(n) as u32 + 1)
 }
 
 // From the start of block k, in state st, up to closing number j of the body: it stands in the first byte
@@ -86,9 +87,10 @@ pub fn upto(st: Scan, t: &[i8; 768], body: &[u8], k: usize, j: usize, stop: usiz
             return here;
         }
         let b = body[m];
-        let next = here.byte(t, 8 * m, b);
-        if 2 * j + 2 + next.excess <= 8 * m + 8 + GROUND {
-            return last(here, t, m, b, j);
+        let at = 8 * m;
+        let next = here.byte(t, at, b);
+        if 2 * j + 2 + next.excess <= at + 8 + GROUND {
+            return last(here, t, at, b, j);
         }
         here = next;
         m += 1;

@@ -87,3 +87,19 @@ pub fn refusal(a: Answer) -> usize {
         Answer::Refused(r) => answers::number_of(r),
     }
 }
+
+// Whether two answers are the same.
+pub fn same(a: Answer, b: Answer) -> bool {
+    match b {
+        Answer::Is(v) => is(a, v),
+        Answer::Refused(r) => refusal(a) == answers::number_of(r),
+    }
+}
+
+// What is answered, or the other number.
+pub fn value(a: Answer, other: usize) -> usize {
+    match a {
+        Answer::Is(v) => v,
+        Answer::Refused(_) => other,
+    }
+}

@@ -8,11 +8,15 @@ pub fn counts(s: &[u32], n: usize) -> &[u32] {
     if n <= s.len() { &s[0..n] } else { s }
 }
 
+pub fn numbers(s: &[u16], n: usize) -> &[u16] {
+    if n <= s.len() { &s[0..n] } else { s }
+}
+
 pub fn bytes_mut(s: &mut [u8], n: usize) -> &mut [u8] {
     if n <= s.len() { &mut s[0..n] } else { s }
 }
 
-pub fn work_mut(s: &mut [u16], n: usize) -> &mut [u16] {
+pub fn numbers_mut(s: &mut [u16], n: usize) -> &mut [u16] {
     if n <= s.len() { &mut s[0..n] } else { s }
 }
 

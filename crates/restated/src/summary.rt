@@ -6,7 +6,8 @@ fn wide(v: u16) -> usize {
     v as usize
 }
 
-fn at(summary: &[u16], x: usize) -> usize {
+// A slot; 65,535 where there is none.
+pub fn at(summary: &[u16], x: usize) -> usize {
     if x < summary.len() {
         wide(summary[x])
     } else {
@@ -84,12 +85,19 @@ fn nodes(summary: &mut [u16]) {
     }
 }
 
+fn blank(summary: &mut [u16]) {
+    let mut x = 0;
+    while x < 896 {
+        put(summary, x, 65535);
+        x += 1;
+    }
+}
+
 // The 896 numbers of a record that passes its check.
-pub fn fill(bytes: &[u8]) -> [u16; 896] {
-    let mut summary = [65535u16; 896];
-    parens(bytes, 2 * plain::entries(bytes), &mut summary);
-    nodes(&mut summary);
-    summary
+pub fn fill(bytes: &[u8], summary: &mut [u16]) {
+    blank(summary);
+    parens(bytes, 2 * plain::entries(bytes), summary);
+    nodes(summary);
 }
 
 // Whether one of the two slots that an ask from i to j begins with names a block that a record of n entries has not

@@ -27,6 +27,14 @@ impl Tally {
             differ: more(self.differ),
         }
     }
+
+    // Of those that are meant.
+    pub fn among(self, meant: bool, holds: bool) -> Tally {
+        if meant {
+            return self.of(holds);
+        }
+        self
+    }
 }
 
 // One more under a refusal's number, or under 0.

@@ -1,7 +1,7 @@
 -- Laws of the scan: one stretch after another, and how far a stretch can carry a state.
 -- Assumes nothing.
 use mathlib.Core.Path.{_≡_, refl, ap, sym, _∙_}
-use Prim.Native.Nat.{ℕ, zero, suc, pred, min, _+_, _*_, _≤_, _<_}
+use Prim.Native.Nat.{ℕ, zero, suc, pred, min, _+_, _-_, _*_, _≤_, _<_}
 use native.Mathlib.Nat.{add-zero, add-suc, suc-add, zero-add, le-refl, le-trans}
 use native.Mathlib.Omega.{arith}
 use mathlib.Core.Bool.{Bool, true, false, cond}
@@ -9,14 +9,14 @@ use mathlib.Core.List.{List, [], _∷_, _++_, append-nil, append-assoc}
 use borrow.Author.Tests.{ltb-true, ltb-false, le-ltb}
 use lib.Dec.{ltb}
 use native.Mathlib.Numerals.{add-one}
-use lib.ListN.{length, take, getD, replicate}
-use lib.Seq.{take-all, take-suc, length-take-le}
+use lib.ListN.{length, take, drop, getD, replicate, length-take, length-drop}
+use lib.Seq.{take-all, take-suc, take-add, length-take-le}
 use Rattle.rules.specs.Bytes.{lowBits, allBits}
 use Rattle.rules.proofs.Bytes.{allBits-length, allBits-append}
 use Rattle.rules.specs.Shape.{Paren, opening, closing}
 use Rattle.rules.specs.Excess.{openings, closings, excesses, listOf}
 use Rattle.rules.specs.Summary.{none, smallestOf}
-use Rattle.rules.proofs.Excess.{excesses-opening, excesses-closing}
+use Rattle.rules.proofs.Excess.{counts-length, excesses-opening, excesses-closing}
 use Rattle.scan.specs.declared.Scan.{Scan}
 use Rattle.scan.specs.Scan.{seen, stepOf, scanOf, Ready}
 
@@ -87,6 +87,23 @@ scan-openings e m q p zero h = rw add-zero
 scan-openings e m q p (suc u) h =
     ap (λ (st : Scan). scanOf st (suc p) (replicate u opening)) (step-opening e m q p (omega arith))
     ∙ rw (add-suc e u, ← suc-add e u) (scan-openings (suc e) m q (suc p) u (omega arith))
+
+-- from far enough above the smallest, only the closings count
+pub scan-far : (e m q p : ℕ) (s : List Paren) → m + length s ≤ e
+    → scanOf (record { excess = e; smallest = m; place = q }) p s ≡ record { excess = e + length s - 2 * closings s; smallest = m; place = q }
+unfolding scanOf closings
+scan-far e m q p [] h = let x : e + 0 - 2 * closings [] ≡ e = omega arith in rw x
+scan-far e m q p (opening ∷ s) h =
+    let x : suc e + length s - 2 * closings s ≡ e + suc (length s) - 2 * closings s = omega arith in
+    ap (λ (st : Scan). scanOf st (suc p) s) (step-opening e m q p (omega arith))
+    ∙ scan-far (suc e) m q (suc p) s (omega arith)
+    ∙ rw x
+scan-far zero m q p (closing ∷ s) h = absurd (omega arith)
+scan-far (suc e) m q p (closing ∷ s) h =
+    let x : e + length s - 2 * closings s ≡ suc e + suc (length s) - 2 * suc (closings s) = omega arith in
+    ap (λ (st : Scan). scanOf st (suc p) s) (step-closing e m q p (omega arith))
+    ∙ scan-far e m q (suc p) s (omega arith)
+    ∙ rw x
 
 pub seen-least : (st : Scan) (p e : ℕ) → seen st p e .smallest ≤ e
 seen-least st p e = by (ltb e (st .smallest)) refl
@@ -176,6 +193,13 @@ scanned-ready st at k j bs h ready =
     ready-after st at (8 * j) (allBits (take k bs))
     (ready-fewer st _ (8 * length bs) (omega (arith, allBits-length (take k bs), length-take-le k bs (omega arith))) ready)
 
+pub scanned-on : (st : Scan) (at k j : ℕ) (bs : List ℕ) → k ≤ length bs
+    → scanOf (scanned st at bs k) (at + 8 * k) (allBits (take j (drop k bs))) ≡ scanned st at bs (k + j)
+unfolding scanned
+scanned-on st at k j bs h =
+    let e : length (allBits (take k bs)) ≡ 8 * k = rw (length-take-le k bs h) at (allBits-length (take k bs)) in
+    rw (take-add k j bs, allBits-append, scan-append, e)
+
 pub scanned-more : (st : Scan) (at k : ℕ) (bs : List ℕ) → k < length bs
     → scanOf (scanned st at bs k) (at + 8 * k) (lowBits 8 (getD bs k 0)) ≡ scanned st at bs (k + 1)
 unfolding scanned allBits
@@ -185,6 +209,24 @@ scanned-more st at k bs h =
   where
     one : (b : ℕ) → allBits (b ∷ []) ≡ lowBits 8 b
     one b = append-nil (lowBits 8 b)
+
+-- ---- eight bytes
+
+module _ (k : ℕ) (bs : List ℕ) (h : k + 8 ≤ length bs) where
+  eight-length : length (allBits (take 8 (drop k bs))) ≡ 64
+  eight-length =
+      let l : length (take 8 (drop k bs)) ≡ 8 = simp (length-take, length-drop) (omega arith) in
+      rw (allBits-length (take 8 (drop k bs)), l)
+
+  pub eight-few : closings (allBits (take 8 (drop k bs))) ≤ 64
+  eight-few = omega (arith, counts-length (allBits (take 8 (drop k bs))), eight-length)
+
+  -- counted
+  pub scan-counted : (st : Scan) (p c : ℕ) → c ≡ closings (allBits (take 8 (drop k bs))) → st .smallest + 64 ≤ st .excess
+      → record { excess = st .excess + 64 - 2 * c; smallest = st .smallest; place = st .place } ≡ scanOf st p (allBits (take 8 (drop k bs)))
+  scan-counted st p c e far =
+      let l = eight-length in
+      rw (e, ← l) (sym (scan-far (st .excess) (st .smallest) (st .place) p (allBits (take 8 (drop k bs))) (omega arith)))
 
 -- bytes, and one more byte whose bits are those of l and then openings
 pub scan-opened : (st x y : Scan) (p : ℕ) (bs : List ℕ) (b u : ℕ) (l : List Paren) → x ≡ scanOf st p (allBits bs)

@@ -6,7 +6,7 @@ mod rows;
 
 ghost use mathlib.Core.Path.{_≡_};
 ghost use Prim.Native.Nat.{_+_, _*_, _≤_, _<_};
-ghost use lib.ListN.{length};
+ghost use lib.ListN.{length, take, drop};
 ghost use Rattle.rules.specs.Bytes.{lowBits, allBits};
 ghost use Rattle.scan.specs.Rows.{rows, cell};
 ghost use Rattle.scan.specs.Scan.{Ready, scanOf};
@@ -58,8 +58,8 @@ impl Scan {
         }
     }
 
-    // The state after all parentheses of these bytes, the first of which stands at place at.
-    pub fn bytes(self, t: &[i8; 768], part: &[u8], at: usize) -> Scan
+    // The state after all parentheses of these bytes, the first of which stands at place at, byte by byte.
+    fn each(self, t: &[i8; 768], part: &[u8], at: usize) -> Scan
         requires { ⌜ (now t ≡ rows) × Ready self (8 * length (now part)) × (at + 8 * length (now part) ≤ 1048576) ⌝ }
         ensures { λ r. ⌜ r ≡ scanOf self at (allBits (now (part .entry))) ⌝ }
     {
@@ -70,5 +70,38 @@ impl Scan {
             k += 1;
         }
         st
+    }
+
+    // The state after the eight bytes from number k on. From an excess of 64 or more above the smallest
+    // none of their parentheses goes below it: then only the closings count, and no row is looked up.
+    fn eight(self, t: &[i8; 768], part: &[u8], k: usize, at: usize) -> Scan
+        requires { ⌜ (now t ≡ rows) × Ready self 64 × (k + 8 ≤ length (now part)) × (at + 64 ≤ 1048576) ⌝ }
+        ensures { λ r. ⌜ r ≡ scanOf self at (allBits (take 8 (drop k (now (part .entry))))) ⌝ }
+    {
+        if self.smallest + 64 <= self.excess {
+            let closings = words::closings(part, k);
+            return Scan {
+                excess: self.excess + 64 - 2 * closings,
+                smallest: self.smallest,
+                place: self.place,
+            };
+        }
+        let to = k + 8;
+        self.each(t, &part[k..to], at)
+    }
+
+    // The state after all parentheses of these bytes, the first of which stands at place at: eight bytes
+    // at a time, then those that are left.
+    pub fn bytes(self, t: &[i8; 768], part: &[u8], at: usize) -> Scan
+        requires { ⌜ (now t ≡ rows) × Ready self (8 * length (now part)) × (at + 8 * length (now part) ≤ 1048576) ⌝ }
+        ensures { λ r. ⌜ r ≡ scanOf self at (allBits (now (part .entry))) ⌝ }
+    {
+        let mut st = self;
+        let mut k = 0;
+        while k + 8 <= part.len() {
+            st = st.eight(t, part, k, at + 8 * k);
+            k += 8;
+        }
+        st.each(t, &part[k..], at + 8 * k)
     }
 }

@@ -66,7 +66,7 @@ fn tight(n: usize, room: usize, numbers: usize) {
     let mut out = [0xEEu8; 8197];
     let a = build::build(
         part::counts(&column, n),
-        part::work_mut(&mut work, numbers),
+        part::numbers_mut(&mut work, numbers),
         part::bytes_mut(&mut out, room),
     );
     let t = Tally::new()

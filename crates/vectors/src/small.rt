@@ -10,7 +10,7 @@ fn built(column: &[u32], room: usize, numbers: usize) {
     let mut work = [7u16; 6];
     let a = build::build(
         column,
-        part::work_mut(&mut work, numbers),
+        part::numbers_mut(&mut work, numbers),
         part::bytes_mut(&mut out, room),
     );
     let line = Line::new().text(b"build").counts(column);

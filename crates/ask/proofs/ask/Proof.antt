@@ -10,48 +10,53 @@ use Rattle.ask.proofs.ask.Statement.{statement}
 use Rattle.ask.proofs.ask.Tie as tie
 
 -- the check has answered n
-answered : (c : tie.After-known-told) → checkSays (c .before .before .before .before .before .args .bytes .now) ≡ answer (c .before .n .given .0 .0)
-answered c = sym (c .before .before .before .check .ensures) ∙ ap said (c .before .n .given .1)
+answered : (c : tie.After-known-told) → checkSays (c .before .before .before .before .before .before .before .args .bytes .now) ≡ answer (c .before .n .given .0 .0)
+answered c = sym (c .before .before .before .check-through .ensures) ∙ ap said (c .before .n .given .1)
 
-check-requires : tie.Need-check-requires
-check-requires c κs = search needs
+table-requires : tie.Need-table-requires
+table-requires c κs = search needs
+
+check-through-requires : tie.Need-check-through-requires
+check-through-requires c κs = search needs
 
 enum-known-n : tie.Need-enum-known-n
 enum-known-n c = search needs
 
 returns : tie.Need-returns
 returns c =
-    let a = c .before .before .before .before .before .before .args in
+    let a = c .before .before .before .before .before .before .before .before .args in
     sym (ask-crossed (a .bytes .now) (a .i) (a .j) (answered (c .before)) (c .if1 .taken))
 
 between-requires : tie.Need-between-requires
 between-requires c κs =
-    let a = c .before .before .before .before .before .before .before .args in
-    ask-taken (a .bytes .now) (a .i) (a .j) (answered (c .before .before)) (c .before .if1 .left) (c .if2 .taken)
+    let table = c .before .before .before .before .before .before .before .before in
+    let a = table .before .before .args in
+    (table .table .ensures, ask-taken (a .bytes .now) (a .i) (a .j) (answered (c .before .before .before)) (c .before .before .if1 .left) (c .before .if2 .taken))
 
 returns-2 : tie.Need-returns-2
 returns-2 c =
-    let a = c .before .before .before .before .before .before .before .before .args in
-    ap answer (c .between .ensures) ∙ sym (ask-answered (a .bytes .now) (a .i) (a .j) (answered (c .before .before .before)) (c .before .before .if1 .left) (c .before .if2 .taken))
+    let a = c .before .before .before .before .before .before .before .before .before .before .before .args in
+    ap answer (c .between .ensures) ∙ sym (ask-answered (a .bytes .now) (a .i) (a .j) (answered (c .before .before .before .before)) (c .before .before .before .if1 .left) (c .before .before .if2 .taken))
 
 enum-known-r : tie.Need-enum-known-r
 enum-known-r c = search needs
 
 returns-3 : tie.Need-returns-3
 returns-3 c =
-    let a = c .before .before .before .before .before .before .before .args in
+    let a = c .before .before .before .before .before .before .before .before .before .args in
     sym (ask-outside (a .bytes .now) (a .i) (a .j) (answered (c .before .before)) (c .before .if1 .left) (c .if2 .left))
 
 returns-4 : tie.Need-returns-4
 returns-4 c =
-    let a = c .before .before .before .before .before .args in
-    sym (ask-refused (a .bytes .now) (a .i) (a .j) (sym (c .before .before .before .check .ensures) ∙ ap said (c .before .r .given .1)))
+    let a = c .before .before .before .before .before .before .before .args in
+    sym (ask-refused (a .bytes .now) (a .i) (a .j) (sym (c .before .before .before .check-through .ensures) ∙ ap said (c .before .r .given .1)))
 
 pub ask-spec : {M : Type 1} → statement M
 ask-spec =
     tie.close
     (tie.spec
-    check-requires
+    table-requires
+    check-through-requires
     enum-known-n
     returns
     between-requires

@@ -9,27 +9,25 @@ use Rattle.ask.proofs.between.Statement.{statement}
 use Rattle.ask.proofs.between.Tie as tie
 
 named : (c : tie.After-lowest)
-    → let a = c .before .before .before .before .before .args in Names (c .lowest .result) (entryBetween (parens (entries (a .bytes .now)) (a .bytes .now)) (a .i) (a .j))
+    → let a = c .before .before .before .args in Names (c .lowest .result) (entryBetween (parens (entries (a .bytes .now)) (a .bytes .now)) (a .i) (a .j))
 named c =
-    let h = c .before .before .before .before .before .pre in
+    let h = c .before .before .before .pre .1 in
     names h (rw (body h) at (c .lowest .ensures))
 
-table-requires : tie.Need-table-requires
-table-requires c κs = search needs
-
 sub-lowest : tie.Need-sub-lowest
-sub-lowest c = long (c .before .before .before .pre)
+sub-lowest c = long (c .before .pre .1)
 
 part-lowest-start : tie.Need-part-lowest-start
-part-lowest-start c = long (c .before .before .before .pre)
+part-lowest-start c = long (c .before .pre .1)
 
 part-lowest-end : tie.Need-part-lowest-end
 part-lowest-end c = search needs
 
 lowest-requires : tie.Need-lowest-requires
 lowest-requires c κs =
-    let h = c .before .before .before .before .pre in
-    (c .before .before .table .ensures, rw (body h) (omega (arith, asked h)))
+    let start = c .before .before in
+    let h = start .pre .1 in
+    (start .pre .0, rw (body h) (omega (arith, asked h)))
 
 add-closings : tie.Need-add-closings
 add-closings c = omega (arith, named (c .before))
@@ -47,7 +45,6 @@ pub between-spec : {M : Type 1} → statement M
 between-spec =
     tie.close
     (tie.spec
-    table-requires
     sub-lowest
     part-lowest-start
     part-lowest-end

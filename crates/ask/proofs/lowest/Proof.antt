@@ -14,26 +14,26 @@ use borrow.Author.Needs.{needs}
 use Rattle.ask.proofs.lowest.Statement.{statement}
 use Rattle.ask.proofs.lowest.Tie as tie
 
-abbrev bytes : tie.After-seek → List ℕ
+abbrev bytes : tie.After-find → List ℕ
 bytes c = c .before .before .args .body .now
 
-abbrev last : tie.After-seek → ℕ
+abbrev last : tie.After-find → ℕ
 last c = c .before .before .args .j
 
 -- closing i's byte
-abbrev own : tie.After-seek → ℕ
-own c = c .seek .result .byte
+abbrev own : tie.After-find → ℕ
+own c = c .find .result .byte
 
 -- what the calls on the way have told: the closings up to the end of closing i's byte, those before it, and where closing j is
 upto : (c : tie.After-closings) → let k = c .before .before .before in c .closings .result ≡ passed (bytes k) (own k + 1)
 upto c =
     let k = c .before .before .before in
-    c .closings .ensures ∙ next-is (k .before .before .pre .1) (k .seek .ensures) (c .before .behind .result) (c .before .behind .ensures)
+    c .closings .ensures ∙ next-is (k .before .before .pre .1) (k .find .ensures) (c .before .behind .result) (c .before .behind .ensures)
 
 before : (c : tie.After-closings2) → let k = c .before .before .before .before .before .before in c .closings2 .result ≡ passed (bytes k) (own k)
 before c =
     let k = c .before .before .before .before .before .before in
-    c .closings2 .ensures ∙ before-is (k .before .before .pre .1) (k .seek .ensures)
+    c .closings2 .ensures ∙ before-is (k .before .before .pre .1) (k .find .ensures)
 
 same : (c : tie.Then1) → let k = c .before .before .before .before in last k < passed (bytes k) (own k + 1)
 same c = rw (upto (c .before)) at (c .if1 .taken)
@@ -46,8 +46,8 @@ at-bit : (c : tie.After-nth)
     c .nth .result ≡ closingPlace (lowBits 8 (getD (bytes k) (own k) 0)) (last k - passed (bytes k) (own k))
 at-bit c = rw (before (c .before)) at (c .nth .ensures)
 
-seek-requires : tie.Need-seek-requires
-seek-requires c κs = search needs
+find-requires : tie.Need-find-requires
+find-requires c κs = search needs
 
 shared-slice-read-b : tie.Need-shared-slice-read-b
 shared-slice-read-b c = search needs
@@ -65,18 +65,18 @@ add-e-2 : tie.Need-add-e-2
 add-e-2 c = search needs
 
 mul-e-2 : tie.Need-mul-e-2
-mul-e-2 c = omega (arith, number-low (c .before .before .before .pre .1) (c .before .seek .ensures))
+mul-e-2 c = omega (arith, number-low (c .before .before .before .pre .1) (c .before .find .ensures))
 
 sub-e : tie.Need-sub-e
 sub-e c =
     let q = c .before .before .before .pre .1 in
-    let w = c .before .seek .ensures in
+    let w = c .before .find .ensures in
     omega (arith, number-low q w, byte-low q w)
 
 sub-e-2 : tie.Need-sub-e-2
 sub-e-2 c =
     let q = c .before .before .before .pre .1 in
-    let w = c .before .seek .ensures in
+    let w = c .before .find .ensures in
     omega (arith, number-low q w, byte-low q w)
 
 mul-behind : tie.Need-mul-behind
@@ -85,7 +85,7 @@ mul-behind c = search needs
 behind-requires : tie.Need-behind-requires
 behind-requires c κs =
     let start = c .before .before .before in
-    (start .pre .0, begins (start .pre .1) (c .before .seek .ensures))
+    (start .pre .0, begins (start .pre .1) (c .before .find .ensures))
 
 add-next : tie.Need-add-next
 add-next c = search needs
@@ -97,7 +97,7 @@ closings-requires : tie.Need-closings-requires
 closings-requires c κs =
     let k = c .before .before in
     let q = k .before .before .pre .1 in
-    (omega (arith, byte-low q (k .seek .ensures)), next-fits q (k .seek .ensures) (c .behind .result) (c .behind .ensures))
+    (omega (arith, byte-low q (k .find .ensures)), next-fits q (k .find .ensures) (c .behind .result) (c .behind .ensures))
 
 mul-closings-2 : tie.Need-mul-closings-2
 mul-closings-2 c = search needs
@@ -106,17 +106,17 @@ closings-requires-2 : tie.Need-closings-requires-2
 closings-requires-2 c κs =
     let k = c .before .before .before .before .before in
     let q = k .before .before .pre .1 in
-    (omega (arith, byte-low q (k .seek .ensures)), before-fits q (k .seek .ensures))
+    (omega (arith, byte-low q (k .find .ensures)), before-fits q (k .find .ensures))
 
 sub-nth : tie.Need-sub-nth
 sub-nth c =
     let k = c .before .before .before .before .before .before in
-    rw (before c) (before-low (k .before .before .pre .1) (k .seek .ensures))
+    rw (before c) (before-low (k .before .before .pre .1) (k .find .ensures))
 
 nth-requires : tie.Need-nth-requires
 nth-requires c κs =
     let k = c .before .before .before .before .before .before in
-    rw (before c) (same-among (k .before .before .pre .1) (k .seek .ensures) (same (c .before .before)))
+    rw (before c) (same-among (k .before .before .pre .1) (k .find .ensures) (same (c .before .before)))
 
 mul-within : tie.Need-mul-within
 mul-within c = search needs
@@ -124,20 +124,20 @@ mul-within c = search needs
 add-within : tie.Need-add-within
 add-within c =
     let k = c .before .before .before .before .before .before .before in
-    omega (arith, same-low (k .before .before .pre .1) (k .seek .ensures) (same (c .before .before .before)) (at-bit c))
+    omega (arith, same-low (k .before .before .pre .1) (k .find .ensures) (same (c .before .before .before)) (at-bit c))
 
 within-requires : tie.Need-within-requires
 within-requires c κs =
     let k = c .before .before .before .before .before .before .before in
     let q = k .before .before .pre .1 in
-    let w = k .seek .ensures in
+    let w = k .find .ensures in
     let h = same (c .before .before .before) in
     (k .before .before .pre .0, begins q w, omega (arith, same-order q w h (at-bit c)), omega (arith, same-low q w h (at-bit c)))
 
 returns : tie.Need-returns
 returns c =
     let k = c .before .before .before .before .before .before .before .before in
-    c .within .ensures ∙ same-seen (k .before .before .pre .1) (k .seek .ensures) (same (c .before .before .before .before)) (at-bit (c .before))
+    c .within .ensures ∙ same-seen (k .before .before .pre .1) (k .find .ensures) (same (c .before .before .before .before)) (at-bit (c .before))
 
 sub-through : tie.Need-sub-through
 sub-through c = search needs
@@ -155,7 +155,7 @@ through-requires : tie.Need-through-requires
 through-requires c κs =
     let k = c .before .before .before .before .before in
     let q = k .before .before .pre .1 in
-    let w = k .seek .ensures in
+    let w = k .find .ensures in
     let here = c .before .before .before .behind in
     (k .before .before .pre .0, rw (upto (c .before .before), next-part q w) (apart-ahead q w (here .result) (here .ensures) (apart (c .before))))
 
@@ -163,7 +163,7 @@ returns-2 : tie.Need-returns-2
 returns-2 c =
     let k = c .before .before .before .before .before .before in
     let q = k .before .before .pre .1 in
-    let w = k .seek .ensures in
+    let w = k .find .ensures in
     let here = c .before .before .before .before .behind in
     (rw (upto (c .before .before .before), next-part q w) at (c .through .ensures)) ∙ apart-seen q w (here .result) (here .ensures) (apart (c .before .before))
 
@@ -171,7 +171,7 @@ pub lowest-spec : {M : Type 1} → statement M
 lowest-spec =
     tie.close
     (tie.spec
-    seek-requires
+    find-requires
     shared-slice-read-b
     mul-e
     add-e

@@ -5,7 +5,8 @@ use Prim.Native.Nat.{_-_, _≤_}
 use native.Mathlib.Omega.{arith}
 use lib.ListN.{length, getD}
 use Rattle.rules.specs.Bytes.{lowBits}
-use Rattle.blocks.proofs.Selects.{sought, sought-from, sought-here, sought-on, sought-end, one-byte}
+use Rattle.words.proofs.Loaded.{one-byte}
+use Rattle.blocks.proofs.Selects.{sought, sought-from, sought-here, sought-on, sought-end}
 use Rattle.blocks.proofs.rest.Statement.{statement}
 use Rattle.blocks.proofs.rest.Tie as tie
 

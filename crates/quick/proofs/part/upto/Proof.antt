@@ -34,8 +34,8 @@ returns c =
 shared-slice-read-b : tie.Need-shared-slice-read-b Inv-loop μ-loop
 shared-slice-read-b c = omega arith
 
-mul-byte : tie.Need-mul-byte Inv-loop μ-loop
-mul-byte c = omega arith
+mul-at : tie.Need-mul-at Inv-loop μ-loop
+mul-at c = omega arith
 
 byte-requires : tie.Need-byte-requires Inv-loop μ-loop
 byte-requires c κs =
@@ -58,9 +58,6 @@ add-if2-2 c =
     let high = next-ready (a .body .now) (a .k) (a .j) (a .st) (loop .loop .m) (loop .loop .here) (loop .loop .inv) (omega arith) (c .before .byte .result) (c .before .byte .ensures) .high in
     omega arith
 
-mul-if2-2 : tie.Need-mul-if2-2 Inv-loop μ-loop
-mul-if2-2 c = omega arith
-
 add-if2-3 : tie.Need-add-if2-3 Inv-loop μ-loop
 add-if2-3 c = omega arith
 
@@ -79,7 +76,7 @@ returns-2 c =
     let loop = c .before .before .before .before .before .before .before .before in
     let start = loop .before .before .before in
     let a = start .args in
-    reach-found (a .body .now) (a .k) (a .j) (a .st) (loop .loop .m) (loop .loop .here) (loop .loop .inv) (omega (arith, c .before .before .before .before .before .before .before .loop-test .taken)) (c .before .before .before .byte .result) (c .before .before .before .byte .ensures) (start .pre .1) (a .stop) (c .last .result) (c .before .if2 .taken) (c .last .ensures)
+    reach-found (a .body .now) (a .k) (a .j) (a .st) (loop .loop .m) (loop .loop .here) (loop .loop .inv) (omega (arith, c .before .before .before .before .before .before .before .loop-test .taken)) (c .before .before .before .byte .result) (c .before .before .before .byte .ensures) (start .pre .1) (a .stop) (c .last .result) (omega (arith, c .before .if2 .taken)) (c .last .ensures)
 
 add-m : tie.Need-add-m Inv-loop μ-loop
 add-m c = omega arith
@@ -112,12 +109,11 @@ upto-spec =
     loop-holds
     returns
     shared-slice-read-b
-    mul-byte
+    mul-at
     byte-requires
     mul-if2
     add-if2
     add-if2-2
-    mul-if2-2
     add-if2-3
     add-if2-4
     last-requires

@@ -1,11 +1,11 @@
--- `blocks::word::two` meets its contract.
+-- `words::two` meets its contract.
 -- Assumes nothing.
 use Prim.Native.Nat.{_+_}
 use native.Mathlib.Omega.{arith}
 use borrow.Author.Needs.{needs}
-use Rattle.blocks.proofs.Loaded.{loads-one, loads-join}
-use Rattle.blocks.proofs.word.two.Statement.{statement}
-use Rattle.blocks.proofs.word.two.Tie as tie
+use Rattle.words.proofs.Loaded.{loads-one, loads-join}
+use Rattle.words.proofs.two.Statement.{statement}
+use Rattle.words.proofs.two.Tie as tie
 
 shared-slice-read-wide : tie.Need-shared-slice-read-wide
 shared-slice-read-wide c = search needs

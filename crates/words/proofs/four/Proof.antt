@@ -1,9 +1,9 @@
--- `blocks::word::four` meets its contract.
+-- `words::four` meets its contract.
 -- Assumes nothing.
 use borrow.Author.Needs.{needs}
-use Rattle.blocks.proofs.Loaded.{loads-join}
-use Rattle.blocks.proofs.word.four.Statement.{statement}
-use Rattle.blocks.proofs.word.four.Tie as tie
+use Rattle.words.proofs.Loaded.{loads-join}
+use Rattle.words.proofs.four.Statement.{statement}
+use Rattle.words.proofs.four.Tie as tie
 
 two-requires : tie.Need-two-requires
 two-requires c κs = search needs

@@ -1,9 +1,9 @@
--- `blocks::word::word` meets its contract.
+-- `words::word` meets its contract.
 -- Assumes nothing.
 use borrow.Author.Needs.{needs}
-use Rattle.blocks.proofs.Loaded.{loads-join}
-use Rattle.blocks.proofs.word.word.Statement.{statement}
-use Rattle.blocks.proofs.word.word.Tie as tie
+use Rattle.words.proofs.Loaded.{loads-join}
+use Rattle.words.proofs.word.Statement.{statement}
+use Rattle.words.proofs.word.Tie as tie
 
 four-requires : tie.Need-four-requires
 four-requires c κs = search needs

@@ -4,15 +4,20 @@ use mathlib.Core.Path.{_≡_, sym}
 use Prim.Native.Nat.{ℕ, _+_, _*_, _^_, _<_}
 use native.Mathlib.Nat.{mul-comm}
 use native.Mathlib.Omega.{arith}
-use mathlib.Core.List.{List}
+use mathlib.Core.List.{List, append-nil}
 use lib.Arith.{digits-lt}
 use lib.ListN.{length, take, drop, getD}
 use lib.Pow.{pow-add}
-use lib.Seq.{take-add, drop-drop}
+use lib.Seq.{take-add, drop-drop, drop-cons}
+use Rattle.rules.specs.Bytes.{lowBits, allBits}
 use Rattle.rules.proofs.Bytes.{allBits-append}
-use Rattle.blocks.specs.Select.{Loads}
-use Rattle.blocks.proofs.Bits.{lowBits-join}
-use Rattle.blocks.proofs.Selects.{one-byte}
+use Rattle.words.specs.Words.{Loads}
+use Rattle.words.proofs.Low.{lowBits-join}
+
+-- one byte
+pub one-byte : (bs : List ℕ) (at : ℕ) → at < length bs → allBits (take 1 (drop at bs)) ≡ lowBits 8 (getD bs at 0)
+unfolding allBits
+one-byte bs at h = rw (drop-cons bs at 0 h) (append-nil (lowBits 8 (getD bs at 0)))
 
 pub loads-one : (bs : List ℕ) (at r : ℕ) → at < length bs → r ≡ getD bs at 0 → r < 256 → Loads 1 bs at r
 loads-one bs at r h e l = record { fits = l; bits = rw e (sym (one-byte bs at h)) }

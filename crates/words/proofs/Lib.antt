@@ -1,0 +1,3 @@
+pub mod Low
+pub mod Loaded
+pub mod Ones

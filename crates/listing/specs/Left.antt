@@ -59,7 +59,7 @@ pub record Starts (d : List ℕ) (r : Rest) : Type 0 where
   pub value : r ≡ allOf d
 
 -- the first line that is left stands at the start of the buffer, and nothing behind it has changed; the others are left then
-pub record Step·Writes (d : List ℕ) (from : Rest) (o : List ℕ) (s : Step) (o′ : List ℕ) : Type 0 where
+pub record WritesLine (d : List ℕ) (from : Rest) (o : List ℕ) (s : Step) (o′ : List ℕ) : Type 0 where
   pub size : s .length ≡ length (firstLine (linesLeft d from))
   pub room : s .length ≤ lineRoom
   pub out : o′ ≡ sets o 0 (firstLine (linesLeft d from))

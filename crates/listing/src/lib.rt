@@ -9,7 +9,7 @@ use answers::Answer;
 ghost use mathlib.Core.Path.{_≡_};
 ghost use lib.ListN.{length};
 ghost use Rattle.listing.specs.Wrote.{lineRoom};
-ghost use Rattle.listing.specs.Left.{Starts, Step·Writes};
+ghost use Rattle.listing.specs.Left.{Starts, WritesLine};
 
 // What of a listing is still to be written.
 pub enum Rest {
@@ -49,7 +49,7 @@ pub fn start(drawer: &[u8]) -> Rest
 
 // The line of the record at a place, or the one that stops the listing, or the last line where the drawer ends.
 fn line_at(drawer: &[u8], k: u8, at: usize, out: &mut Line) -> Step
-    ensures { λ r. ⌜ Step·Writes (now (drawer .entry)) (Rest.Lines k at) (now (out .entry)) r (now (out .exit)) ⌝ }
+    ensures { λ r. ⌜ WritesLine (now (drawer .entry)) (Rest.Lines k at) (now (out .entry)) r (now (out .exit)) ⌝ }
 {
     let number = k as usize;
     let count = number + 1;
@@ -83,7 +83,7 @@ fn line_at(drawer: &[u8], k: u8, at: usize, out: &mut Line) -> Step
 // The first of the lines that are left, at the start of the buffer, with its length and what is left behind it; a
 // length of 0 where nothing was left.
 pub fn next(drawer: &[u8], rest: Rest, out: &mut Line) -> Step
-    ensures { λ r. ⌜ Step·Writes (now (drawer .entry)) rest (now (out .entry)) r (now (out .exit)) ⌝ }
+    ensures { λ r. ⌜ WritesLine (now (drawer .entry)) rest (now (out .entry)) r (now (out .exit)) ⌝ }
 {
     match rest {
         Rest::Lines(k, at) => line_at(drawer, k, at, out),

@@ -9,7 +9,7 @@ use mathlib.Core.List.{List}
 use lib.ListN.{length, set, length-append}
 use Rattle.rules.specs.Listing.{decimal, digit}
 use Rattle.rules.proofs.Listing.{decimal-one, decimal-more}
-use Rattle.listing.specs.Wrote.{Wrote}
+use Rattle.listing.specs.Wrote.{Wrote, lineRoom}
 use Rattle.listing.proofs.Writing.{wrote-both, wrote-one}
 
 pub one-digit : (x : ℕ) → x < 10 → length (decimal x) ≡ 1
@@ -33,8 +33,8 @@ digits-most (suc k) x h = by (decLt x 10) (λ l. digits-most k (x / 10) l)
 pub twenty : (x : ℕ) → x < 2 ^ 64 → length (decimal x) ≤ 20
 twenty x h = digits-most 19 x (omega (arith, h))
 
-pub wrote-digit : (o : List ℕ) (at x : ℕ) → x < 10 → at < 65600 → Wrote o at (decimal x) (at + 1) (set o at (48 + x))
+pub wrote-digit : (o : List ℕ) (at x : ℕ) → x < 10 → at < lineRoom → Wrote o at (decimal x) (at + 1) (set o at (48 + x))
 wrote-digit o at x h l = rw (decimal-one x h) (wrote-one o at (48 + x) l)
 
-pub wrote-last : {o o′ : List ℕ} {at r : ℕ} (x : ℕ) → 10 ≤ x → Wrote o at (decimal (x / 10)) r o′ → r < 65600 → Wrote o at (decimal x) (r + 1) (set o′ r (48 + x % 10))
+pub wrote-last : {o o′ : List ℕ} {at r : ℕ} (x : ℕ) → 10 ≤ x → Wrote o at (decimal (x / 10)) r o′ → r < lineRoom → Wrote o at (decimal x) (r + 1) (set o′ r (48 + x % 10))
 wrote-last {o′} {r} x h w l = rw (decimal-more x h) (wrote-both w (wrote-one o′ r (48 + x % 10) l))

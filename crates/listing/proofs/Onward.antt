@@ -17,7 +17,7 @@ use Rattle.listing.specs.declared.Rest.{Rest}
 use Rattle.listing.specs.declared.Rest.the-variants.{Lines, End, Nothing}
 use Rattle.listing.specs.declared.Step.{Step}
 use Rattle.listing.specs.Wrote.{Wrote}
-use Rattle.listing.specs.Left.{linesLeft, firstLine, otherLines, behindFrame, behindLine, restAfter, Step·Writes}
+use Rattle.listing.specs.Left.{linesLeft, firstLine, otherLines, behindFrame, behindLine, restAfter, WritesLine}
 
 lines-none : (m k : ℕ) → linesFrom m k [] ≡ []
 unfolding linesFrom
@@ -72,12 +72,12 @@ module _ (d : List ℕ) (k at : ℕ) where
 
 -- a line that is the first of those left
 pub writes : {d o o′ : List ℕ} {from rest : Rest} {l : List ℕ} {r : ℕ} → linesLeft d from ≡ l ∷ linesLeft d rest → restAfter d from ≡ rest → Wrote o 0 l r o′
-    → Step·Writes d from o (record { length = r; rest = rest }) o′
+    → WritesLine d from o (record { length = r; rest = rest }) o′
 writes e f w =
     record { size = w .behind ∙ rw e (zero-add _); room = w .room; out = rw e (w .stored); lines = rw e; value = sym f }
 
 -- what a caller in a loop goes by: the buffer keeps its length, and each line that is written is one fewer
-module _ {d o o′ : List ℕ} {from : Rest} {s : Step} (w : Step·Writes d from o s o′) where
+module _ {d o o′ : List ℕ} {from : Rest} {s : Step} (w : WritesLine d from o s o′) where
   pub same-room : length o′ ≡ length o
   same-room = ap length (w .out) ∙ length-sets o 0 (firstLine (linesLeft d from))
 

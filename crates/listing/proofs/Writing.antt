@@ -7,7 +7,7 @@ use native.Mathlib.Omega.{arith}
 use mathlib.Core.List.{List, [], _∷_, _++_, append-assoc}
 use lib.ListN.{length, drop, getD, set, length-append, drop-of-length-le}
 use lib.Seq.{sets, drop-cons}
-use Rattle.listing.specs.Wrote.{Wrote}
+use Rattle.listing.specs.Wrote.{Wrote, lineRoom}
 
 sets-append : (o : List ℕ) (i : ℕ) (t u : List ℕ) → sets o i (t ++ u) ≡ sets (sets o i t) (i + length t) u
 sets-append o i [] u = rw add-zero
@@ -27,7 +27,7 @@ wrote-both {o} {at} {t} {u} v w =
 pub wrote-three : {o o′ o″ t : List ℕ} {at r r′ : ℕ} (u v : List ℕ) → Wrote o at t r o′ → Wrote o′ r (u ++ v) r′ o″ → Wrote o at (t ++ u ++ v) r′ o″
 wrote-three {t} u v w x = rw (append-assoc t u v) (wrote-both w x)
 
-pub wrote-one : (o : List ℕ) (at a : ℕ) → at < 65600 → Wrote o at (a ∷ []) (at + 1) (set o at a)
+pub wrote-one : (o : List ℕ) (at a : ℕ) → at < lineRoom → Wrote o at (a ∷ []) (at + 1) (set o at a)
 wrote-one o at a h = record { behind = refl; stored = refl; room = omega arith }
 
 -- the first k bytes of t are written
@@ -44,7 +44,7 @@ one-stored {o} {o′} {t} {at} {k} a s h e =
     let j : k + 1 ≡ suc k = omega arith in
     record { within = omega arith; going = rw (i, j, e) (rw (drop-cons t k 0 h) at (s .going)) }
 
-pub all-stored : {o o′ t : List ℕ} {at k : ℕ} → Storing o at t o′ k → length t ≤ k → at + k ≤ 65600 → Wrote o at t (at + k) o′
+pub all-stored : {o o′ t : List ℕ} {at k : ℕ} → Storing o at t o′ k → length t ≤ k → at + k ≤ lineRoom → Wrote o at t (at + k) o′
 all-stored {o} {o′} {t} {at} {k} s h r =
     let e : k ≡ length t = omega (arith, s .within) in
     record { behind = ap (λ j. at + j) e; stored = rw (drop-of-length-le t h) at (s .going); room = r }

@@ -11,6 +11,7 @@ use Rattle.rules.specs.Refusal.{Outcome, answer, refusal}
 use Rattle.rules.specs.Order.{frameSays}
 use Rattle.rules.specs.Drawer.{mostBytes, mostRecords}
 use Rattle.rules.specs.Listing.{endLine, longLine, linesFrom, endedLines, listingLines}
+use Rattle.listing.specs.Wrote.{lineRoom}
 use Rattle.listing.specs.declared.Rest.{Rest}
 use Rattle.listing.specs.declared.Rest.the-variants.{Lines, End, Long, Nothing}
 use Rattle.listing.specs.declared.Step.{Step}
@@ -58,9 +59,9 @@ pub record Starts (d : List ℕ) (r : Rest) : Type 0 where
   pub value : r ≡ allOf d
 
 -- the first line that is left stands at the start of the buffer, and nothing behind it has changed; the others are left then
-pub record Step·Writes (d : List ℕ) (from : Rest) (o : List ℕ) (s : Step) (o′ : List ℕ) : Type 0 where
+pub record WritesLine (d : List ℕ) (from : Rest) (o : List ℕ) (s : Step) (o′ : List ℕ) : Type 0 where
   pub size : s .length ≡ length (firstLine (linesLeft d from))
-  pub room : s .length ≤ 65600
+  pub room : s .length ≤ lineRoom
   pub out : o′ ≡ sets o 0 (firstLine (linesLeft d from))
   pub lines : linesLeft d (s .rest) ≡ otherLines (linesLeft d from)
   pub value : s .rest ≡ restAfter d from

@@ -8,7 +8,8 @@ mod text;
 use answers::Answer;
 ghost use mathlib.Core.Path.{_≡_};
 ghost use lib.ListN.{length};
-ghost use Rattle.listing.specs.Left.{Starts, Step·Writes};
+ghost use Rattle.listing.specs.Wrote.{lineRoom};
+ghost use Rattle.listing.specs.Left.{Starts, WritesLine};
 
 // What of a listing is still to be written.
 pub enum Rest {
@@ -28,8 +29,10 @@ pub struct Step {
 }
 
 // Room for the longest line: three numbers with a blank behind each, 65,536 parentheses and the line's end.
-pub fn buffer() -> [u8; 65600]
-    ensures { λ r. ⌜ 65600 ≡ length r ⌝ }
+pub type Line = [u8; 65600];
+
+pub fn buffer() -> Line
+    ensures { λ r. ⌜ lineRoom ≡ length r ⌝ }
 {
     [0; 65600]
 }
@@ -45,8 +48,8 @@ pub fn start(drawer: &[u8]) -> Rest
 }
 
 // The line of the record at a place, or the one that stops the listing, or the last line where the drawer ends.
-fn line_at(drawer: &[u8], k: u8, at: usize, out: &mut [u8; 65600]) -> Step
-    ensures { λ r. ⌜ Step·Writes (now (drawer .entry)) (Rest.Lines k at) (now (out .entry)) r (now (out .exit)) ⌝ }
+fn line_at(drawer: &[u8], k: u8, at: usize, out: &mut Line) -> Step
+    ensures { λ r. ⌜ WritesLine (now (drawer .entry)) (Rest.Lines k at) (now (out .entry)) r (now (out .exit)) ⌝ }
 {
     let number = k as usize;
     let count = number + 1;
@@ -79,8 +82,8 @@ fn line_at(drawer: &[u8], k: u8, at: usize, out: &mut [u8; 65600]) -> Step
 
 // The first of the lines that are left, at the start of the buffer, with its length and what is left behind it; a
 // length of 0 where nothing was left.
-pub fn next(drawer: &[u8], rest: Rest, out: &mut [u8; 65600]) -> Step
-    ensures { λ r. ⌜ Step·Writes (now (drawer .entry)) rest (now (out .entry)) r (now (out .exit)) ⌝ }
+pub fn next(drawer: &[u8], rest: Rest, out: &mut Line) -> Step
+    ensures { λ r. ⌜ WritesLine (now (drawer .entry)) rest (now (out .entry)) r (now (out .exit)) ⌝ }
 {
     match rest {
         Rest::Lines(k, at) => line_at(drawer, k, at, out),

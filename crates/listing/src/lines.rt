@@ -1,4 +1,5 @@
 // Whole lines, from the start of the buffer. Each answers its length.
+use crate::Line;
 use crate::shape;
 use crate::text;
 use answers::Answer;
@@ -10,7 +11,7 @@ ghost use Rattle.rules.specs.Listing.{shapeLine, refusedLine, endLine, longLine
 ghost use Rattle.listing.specs.Wrote.{Wrote};
 
 // The last line.
-pub fn end(count: usize, out: &mut [u8; 65600]) -> usize
+pub fn end(count: usize, out: &mut Line) -> usize
     ensures { λ r. ⌜ Wrote (now (out .entry)) 0 (endLine count) r (now (out .exit)) ⌝ }
 {
     let a = text::word(b"end ", 0, out);
@@ -19,14 +20,14 @@ pub fn end(count: usize, out: &mut [u8; 65600]) -> usize
 }
 
 // The only line of a drawer that is too long.
-pub fn long(out: &mut [u8; 65600]) -> usize
+pub fn long(out: &mut Line) -> usize
     ensures { λ r. ⌜ Wrote (now (out .entry)) 0 longLine r (now (out .exit)) ⌝ }
 {
     text::word(b"refused 12\n", 0, out)
 }
 
 // The line of record k, refused with x.
-pub fn refused(k: usize, x: usize, out: &mut [u8; 65600]) -> usize
+pub fn refused(k: usize, x: usize, out: &mut Line) -> usize
     ensures { λ r. ⌜ Wrote (now (out .entry)) 0 (refusedLine k x) r (now (out .exit)) ⌝ }
 {
     let a = text::field(k, 0, out);
@@ -36,7 +37,7 @@ pub fn refused(k: usize, x: usize, out: &mut [u8; 65600]) -> usize
 }
 
 // The line of record k, which passes its check and has n entries.
-fn accepted(k: usize, bytes: &[u8], n: usize, out: &mut [u8; 65600]) -> usize
+fn accepted(k: usize, bytes: &[u8], n: usize, out: &mut Line) -> usize
     requires { ⌜ checkSays (now bytes) ≡ answer n ⌝ }
     ensures { λ r. ⌜ Wrote (now (out .entry)) 0 (shapeLine k n (parens n (now (bytes .entry)))) r (now (out .exit)) ⌝ }
 {
@@ -48,7 +49,7 @@ fn accepted(k: usize, bytes: &[u8], n: usize, out: &mut [u8; 65600]) -> usize
 }
 
 // The line of record k, by what the record check says of it.
-pub fn judged(k: usize, bytes: &[u8], out: &mut [u8; 65600]) -> usize
+pub fn judged(k: usize, bytes: &[u8], out: &mut Line) -> usize
     ensures { λ r. ⌜ Wrote (now (out .entry)) 0 (recordLine k (now (bytes .entry))) r (now (out .exit)) ⌝ }
 {
     match checks::check(bytes) {

@@ -1,4 +1,5 @@
 // The parentheses of a record that has passed its check, one at a time.
+use crate::Line;
 ghost use mathlib.Core.Path.{_≡_};
 ghost use Prim.Native.Nat.{_+_, _*_, _/_, _≤_, _<_, max};
 ghost use lib.ListN.{length};
@@ -6,7 +7,7 @@ ghost use Rattle.rules.specs.Refusal.{answer};
 ghost use Rattle.rules.specs.Order.{checkSays};
 ghost use Rattle.rules.specs.Bytes.{parens};
 ghost use Rattle.rules.specs.Listing.{greatestExcess, shownShape};
-ghost use Rattle.listing.specs.Wrote.{Wrote};
+ghost use Rattle.listing.specs.Wrote.{Wrote, lineRoom};
 ghost use Rattle.listing.specs.Bit.{bitAt};
 
 // 1 where parenthesis b opens, 0 where it closes.
@@ -41,8 +42,8 @@ pub fn greatest(bytes: &[u8], n: usize) -> usize
 }
 
 // The parentheses, or "-" where there are none.
-pub fn shown(bytes: &[u8], n: usize, at: usize, out: &mut [u8; 65600]) -> usize
-    requires { ⌜ (checkSays (now bytes) ≡ answer n) × (at + 2 * n < 65600) ⌝ }
+pub fn shown(bytes: &[u8], n: usize, at: usize, out: &mut Line) -> usize
+    requires { ⌜ (checkSays (now bytes) ≡ answer n) × (at + 2 * n < lineRoom) ⌝ }
     ensures { λ r. ⌜ Wrote (now (out .entry)) at (shownShape n (parens n (now (bytes .entry)))) r (now (out .exit)) ⌝ }
 {
     if n == 0 {

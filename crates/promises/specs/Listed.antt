@@ -10,7 +10,7 @@ use Rattle.rules.specs.Drawer.{appendSays, bufferAfter}
 use Rattle.rules.specs.Listing.{shapeLine, endLine, listingLines, listing}
 use Rattle.listing.specs.declared.Rest.{Rest}
 use Rattle.listing.specs.declared.Step.{Step}
-use Rattle.listing.specs.Left.{linesLeft, firstLine, allOf, restAfter, Starts, Step·Writes}
+use Rattle.listing.specs.Left.{linesLeft, firstLine, allOf, restAfter, Starts, WritesLine}
 
 -- A buffer with u used bytes into which the columns cs were appended, one after the other
 pub data Made : List ℕ → ℕ → List (List ℕ) → Type 0 where
@@ -36,4 +36,4 @@ pub record Listed : Type 0 where
   pub whole : (d : List ℕ) (m : ℕ) → length (listingLines d) ≤ m → flatten (calls m d (allOf d)) ≡ listing d
   -- two results allowed for one input are equal
   pub start-once : (d : List ℕ) (x y : Rest) → Starts d x → Starts d y → x ≡ y
-  pub next-once : (d : List ℕ) (from : Rest) (o : List ℕ) (s t : Step) (x y : List ℕ) → Step·Writes d from o s x → Step·Writes d from o t y → (s ≡ t) × (x ≡ y)
+  pub next-once : (d : List ℕ) (from : Rest) (o : List ℕ) (s t : Step) (x y : List ℕ) → WritesLine d from o s x → WritesLine d from o t y → (s ≡ t) × (x ≡ y)

@@ -6,13 +6,14 @@ use native.Mathlib.Omega.{arith}
 use lib.ListN.{length}
 use lib.Seq.{length-take-le}
 use borrow.Author.Needs.{needs}
+use Rattle.listing.specs.Wrote.{lineRoom}
 use Rattle.listing.specs.Left.{linesLeft}
 use Rattle.listing.proofs.Onward.{same-room, one-fewer}
 use Rattle.list.proofs.write_lines.Statement.{statement}
 use Rattle.list.proofs.write_lines.Tie as tie
 
 abbrev Inv-loop : tie.InvT-loop
-Inv-loop drawer line₀ rest₀ line rest = length line ≡ 65600
+Inv-loop drawer line₀ rest₀ line rest = length line ≡ lineRoom
 
 abbrev μ-loop : tie.MeasureT-loop
 μ-loop drawer line₀ rest₀ line rest = length (linesLeft drawer rest)

@@ -6,13 +6,14 @@ use Prim.Native.Nat.{_≤_}
 use native.Mathlib.Omega.{arith}
 use lib.ListN.{length}
 use lib.Seq.{length-take-le}
+use Rattle.listing.specs.Wrote.{lineRoom}
 use Rattle.listing.specs.Left.{linesLeft}
 use Rattle.listing.proofs.Onward.{same-room, one-fewer}
 use Rattle.list_cases.proofs.show.listing.Statement.{statement}
 use Rattle.list_cases.proofs.show.listing.Tie as tie
 
 abbrev Inv-loop : tie.InvT-loop
-Inv-loop drawer text₀ rest₀ text rest = length text ≡ 65600
+Inv-loop drawer text₀ rest₀ text rest = length text ≡ lineRoom
 
 abbrev μ-loop : tie.MeasureT-loop
 μ-loop drawer text₀ rest₀ text rest = length (linesLeft drawer rest)

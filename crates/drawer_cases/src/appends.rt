@@ -24,10 +24,13 @@ fn begun(which: usize) -> [u8; 6] {
     rows[which % 5]
 }
 
-// Columns of five entries, of two and of one; of none too.
-fn entries(n: usize) -> [u32; 5] {
+// Columns of five entries, of three, of two and of one; of none too.
+pub fn entries(n: usize) -> [u32; 5] {
     if n == 5 {
         return [4, 2, 4, 2, 9];
+    }
+    if n == 3 {
+        return [3, 1, 2, 0, 0];
     }
     if n == 2 {
         return [2, 1, 0, 0, 0];
@@ -35,59 +38,37 @@ fn entries(n: usize) -> [u32; 5] {
     [7, 0, 0, 0, 0]
 }
 
-// Into the first `room` bytes of a buffer full of EE behind what it begins with, with the first `numbers` numbers of
-// a work full of 7.
-fn one(seen: &mut [usize; 15], row: [usize; 5]) {
-    let mut buffer = [0xEEu8; 16];
-    let mut work = [7u16; 6];
-    let column = entries(row[3]);
-    let some = part::counts(&column, row[3]);
-    drawers::copy(&mut buffer, part::counted(&begun(row[0])));
-    let line = Line::new().text(b"append").counts(some);
-    let inputs = line.form(b" into # used # with #:", &[row[1], row[2], row[4]]);
-    let a = append::append(
-        part::bytes_mut(&mut buffer, row[1]),
-        row[2],
-        some,
-        part::numbers_mut(&mut work, row[4]),
-    );
-    left(seen, inputs, &buffer, &work, a);
+// The entries that are appended.
+pub fn named(n: usize) -> Line {
+    let column = entries(n);
+    Line::new().text(b"append").counts(part::counts(&column, n))
 }
 
-// What the buffer begins with, room, used length, how many entries, work numbers.
-pub fn all(seen: &mut [usize; 15]) {
-    let rows: [[usize; 5]; 25] = [
-        // room and work exactly enough, one too few of each, and of both
-        [1, 16, 5, 5, 6],
-        [1, 11, 5, 5, 5],
-        [1, 10, 5, 5, 5],
-        [1, 11, 5, 5, 4],
-        [1, 10, 5, 5, 4],
-        [1, 9, 5, 0, 0],
-        [1, 8, 5, 0, 0],
-        [1, 5, 5, 0, 0],
-        [0, 4, 0, 0, 0],
-        [0, 3, 0, 0, 0],
-        [0, 0, 0, 0, 0],
-        // a used length past the buffer, and used bytes that are not whole framed records
-        [1, 16, 16, 1, 6],
-        [1, 16, 17, 1, 6],
-        [1, 4, 5, 1, 6],
-        [1, 16, 18446744073709551615, 1, 6],
-        [1, 16, 4, 1, 6],
-        [1, 16, 6, 1, 6],
-        [2, 16, 4, 1, 6],
-        [3, 16, 5, 1, 6],
-        // then with 2 and 3 to come
-        [1, 4, 4, 1, 6],
-        [1, 16, 4, 1, 0],
-        [1, 4, 5, 1, 0],
-        [1, 0, 1, 1, 0],
-        // bits inside are not judged; bytes behind the used ones are nothing
-        [4, 16, 5, 1, 6],
-        [1, 16, 0, 2, 6],
-    ];
-    for k in 0..25 {
-        one(seen, rows[k]);
-    }
+// n of these entries into the first `room` bytes, with the first `numbers` numbers.
+pub fn append(
+    buffer: &mut [u8],
+    work: &mut [u16],
+    n: usize,
+    room: usize,
+    used: usize,
+    numbers: usize,
+) -> Answer {
+    let column = entries(n);
+    append::append(
+        part::bytes_mut(buffer, room),
+        used,
+        part::counts(&column, n),
+        part::numbers_mut(work, numbers),
+    )
+}
+
+// A buffer full of EE behind what it begins with, and a work full of 7. In the row: a letter, what the buffer begins
+// with, room, used length, how many entries, work numbers.
+pub fn one(seen: &mut [usize; 15], row: [usize; 12]) {
+    let mut buffer = [0xEEu8; 16];
+    let mut work = [7u16; 6];
+    drawers::copy(&mut buffer, part::counted(&begun(row[1])));
+    let a = append(&mut buffer, &mut work, row[4], row[2], row[3], row[5]);
+    let line = named(row[4]).form(b" into # used # with #:", &[row[2], row[3], row[5]]);
+    left(seen, line, &buffer, &work, a);
 }

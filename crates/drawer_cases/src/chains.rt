@@ -12,17 +12,19 @@ use restated::part;
 use restated::sums;
 use shown::Line;
 
-// One append behind the used bytes, with everything shown.
+// One append behind the used bytes, with everything shown. It gives the new used length.
 fn next(
     seen: &mut [usize; 15],
     buffer: &mut [u8],
     work: &mut [u16],
     old: usize,
-    column: &[u32],
+    n: usize,
 ) -> usize {
-    let line = Line::new().text(b"append").counts(column);
-    let a = append::append(buffer, old, column, work);
-    appends::left(seen, line.form(b" behind #:", &[old]), buffer, work, a);
+    let room = buffer.len();
+    let numbers = work.len();
+    let a = appends::append(buffer, work, n, room, old, numbers);
+    let line = appends::named(n).form(b" behind #:", &[old]);
+    appends::left(seen, line, buffer, work, a);
     compare::value(a, old)
 }
 
@@ -30,26 +32,44 @@ fn next(
 pub fn three(seen: &mut [usize; 15]) {
     let mut buffer = [0xEEu8; 18];
     let mut work = [7u16; 6];
+    let lengths = [3, 0, 5, 0];
+    let mut end = 0;
     print::show(Line::new().text(b"three in a row\n"));
-    let a = next(seen, &mut buffer, &mut work, 0, &[3, 1, 2]);
-    let b = next(seen, &mut buffer, &mut work, a, &[]);
-    let c = next(seen, &mut buffer, &mut work, b, &[4, 2, 4, 2, 9]);
-    let d = next(seen, &mut buffer, &mut work, c, &[]);
-    finds::each(seen, part::bytes(&buffer, d), &[0, 1, 2, 3]);
+    for k in 0..4 {
+        end = next(seen, &mut buffer, &mut work, end, lengths[k]);
+    }
+    finds::each(seen, part::bytes(&buffer, end), &[0, 1, 2, 3]);
+}
+
+// One append behind the used bytes, counted.
+fn quiet(
+    seen: &mut [usize; 15],
+    buffer: &mut [u8],
+    work: &mut [u16],
+    old: usize,
+    column: &[u32],
+) -> Answer {
+    let a = append::append(buffer, old, column, work);
+    seen::answer(seen, a);
+    a
+}
+
+// A record of five entries and one of none behind 63 records.
+fn two(seen: &mut [usize; 15], buffer: &mut [u8]) -> usize {
+    let mut work = [7u16; 5];
+    let a = quiet(seen, buffer, &mut work, 283, &[4, 2, 4, 2, 9]);
+    let end = compare::value(a, 283);
+    let b = quiet(seen, buffer, &mut work, end, &[]);
+    print::show(Line::new().text(b"behind 63 records\n").answer(a).answer(b));
+    end
 }
 
 // Record 63 behind 63 records, and no record 64.
 pub fn last(seen: &mut [usize; 15]) {
     let mut buffer = [0xEEu8; 300];
-    let mut work = [7u16; 5];
     drawers::fill(part::bytes_mut(&mut buffer, 283), Kind::InTurn);
-    let a = append::append(&mut buffer, 283, &[4, 2, 4, 2, 9], &mut work);
-    seen::answer(seen, a);
-    let end = compare::value(a, 283);
-    let b = append::append(&mut buffer, end, &[], &mut work);
-    seen::answer(seen, b);
-    let line = Line::new().text(b"behind 63 records\n").answer(a).answer(b);
-    print::show(line.text(b"\n"));
+    let end = two(seen, &mut buffer);
+    print::show(Line::new().text(b"\n"));
     finds::each(seen, part::bytes(&buffer, end), &[0, 62, 63, 64]);
 }
 
@@ -58,8 +78,7 @@ fn grow(seen: &mut [usize; 15], buffer: &mut [u8], work: &mut [u16], column: &[u
     let mut end = 0;
     let mut k = 0;
     while k < 70 {
-        let a = append::append(buffer, end, part::counts(column, k), work);
-        seen::answer(seen, a);
+        let a = quiet(seen, buffer, work, end, part::counts(column, k));
         end = compare::value(a, end);
         k += 1;
     }
@@ -74,6 +93,14 @@ fn each(seen: &mut [usize; 15], bytes: &[u8]) {
     }
 }
 
+fn show(buffer: &[u8], work: &[u16], end: usize) {
+    let line = Line::new().form(
+        b"seventy appends: used #, sum #, work",
+        &[end, sums::bytes(buffer)],
+    );
+    print::show(line.numbers(work).text(b"\n"));
+}
+
 // 64 of the seventy find a place.
 pub fn many(seen: &mut [usize; 15]) {
     let mut buffer = [0xEEu8; 2000];
@@ -81,10 +108,6 @@ pub fn many(seen: &mut [usize; 15]) {
     let mut column = [0u32; 70];
     columns::fill(&mut column, columns::Kind::Scattered, 0);
     let end = grow(seen, &mut buffer, &mut work, &column);
-    let line = Line::new().form(
-        b"seventy appends: used #, sum #, work",
-        &[end, sums::bytes(&buffer)],
-    );
-    print::show(line.numbers(&work).text(b"\n"));
+    show(&buffer, &work, end);
     each(seen, part::bytes(&buffer, end));
 }

@@ -46,16 +46,20 @@ pub fn counts(seen: &mut [usize; 15]) {
 }
 
 // The same drawer, a byte shorter, whole and a byte longer.
-fn around(seen: &mut [usize; 15], kind: Kind, count: &[u8]) {
+fn around(seen: &mut [usize; 15], bytes: &[u8]) {
+    drawer(seen, Line::new(), part::bytes(bytes, 65535));
+    drawer(seen, Line::new(), part::bytes(bytes, 65536));
+    drawer(seen, Line::new(), bytes);
+}
+
+fn filled(seen: &mut [usize; 15], kind: Kind, count: &[u8]) {
     let mut bytes = [0u8; 65537];
     drawers::fill(&mut bytes, kind);
     print::show(Line::new().text(count).text(b" records in 65536 bytes\n"));
-    drawer(seen, Line::new(), part::bytes(&bytes, 65535));
-    drawer(seen, Line::new(), part::bytes(&bytes, 65536));
-    drawer(seen, Line::new(), &bytes);
+    around(seen, &bytes);
 }
 
 pub fn sizes(seen: &mut [usize; 15]) {
-    around(seen, Kind::OfMost, b"eight");
-    around(seen, Kind::OfNone, b"16384");
+    filled(seen, Kind::OfMost, b"eight");
+    filled(seen, Kind::OfNone, b"16384");
 }

@@ -59,27 +59,38 @@ pub fn all(seen: &mut [usize; 15]) {
     }
 }
 
-// The first bytes of a long drawer for both, so many for each.
-fn sized(seen: &mut [usize; 15], bytes: &[u8], own: usize, shared: usize, records: &[usize]) {
+// The first bytes of a long drawer for both, so many for each; the first `count` of these records.
+fn sized(
+    seen: &mut [usize; 15],
+    bytes: &[u8],
+    own: usize,
+    shared: usize,
+    records: [usize; 3],
+    count: usize,
+) {
     print::show(Line::new().form(b"own of #, shared of #\n", &[own, shared]));
     let mut k = 0;
-    while k < records.len() {
+    while k < count {
         look(
             seen,
             part::bytes(bytes, own),
             part::bytes(bytes, shared),
-            records[k],
+            records[k % 3],
         );
         k += 1;
     }
 }
 
 // 12 of the own drawer decides, and of the shared one where the own one says 10.
+fn beside(seen: &mut [usize; 15], bytes: &[u8]) {
+    sized(seen, bytes, 65537, 65536, [7, 64, 0], 2);
+    sized(seen, bytes, 65536, 65537, [7, 8, 64], 3);
+    sized(seen, bytes, 65537, 65537, [7, 0, 0], 1);
+    sized(seen, bytes, 0, 65536, [7, 8, 0], 2);
+}
+
 pub fn long(seen: &mut [usize; 15]) {
     let mut bytes = [0u8; 65537];
     drawers::fill(&mut bytes, Kind::OfMost);
-    sized(seen, &bytes, 65537, 65536, &[7, 64]);
-    sized(seen, &bytes, 65536, 65537, &[7, 8, 64]);
-    sized(seen, &bytes, 65537, 65537, &[7]);
-    sized(seen, &bytes, 0, 65536, &[7, 8]);
+    beside(seen, &bytes);
 }

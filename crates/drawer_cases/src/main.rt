@@ -10,6 +10,7 @@ mod limits;
 mod looks;
 mod print;
 mod seen;
+mod table;
 
 fn main() {
     let mut seen = [0usize; 15];
@@ -19,8 +20,7 @@ fn main() {
     faults::cut(&mut seen);
     looks::all(&mut seen);
     looks::long(&mut seen);
-    appends::all(&mut seen);
-    limits::all(&mut seen);
+    table::all(&mut seen);
     chains::three(&mut seen);
     chains::last(&mut seen);
     chains::many(&mut seen);

@@ -5,6 +5,7 @@ pub mod compare;
 pub mod part;
 pub mod plain;
 pub mod random;
+pub mod rows;
 pub mod summary;
 pub mod sums;
 pub mod tally;

@@ -1,7 +1,7 @@
 // Records damaged: each bit turned over, alone and with the next one; cut short at each length; with a byte
 // behind.
-use crate::judge;
 use crate::print;
+use crate::seen;
 use restated::columns;
 use restated::columns::Kind;
 use restated::part;
@@ -72,5 +72,5 @@ pub fn records() {
     let mut seen = [0usize; 15];
     let t = run(&mut seen);
     let line = Line::new().text(b"129 records damaged");
-    print::show(judge::counts(line, &seen).tally(t));
+    print::show(seen::counts(line, &seen).tally(t));
 }

@@ -1,7 +1,7 @@
 // Every string of bytes that is framed as a record of up to eight entries.
-use crate::asks;
-use crate::judge;
 use crate::print;
+use crate::seen;
+use judge::asks;
 use restated::part;
 use restated::plain;
 use restated::tally::Tally;
@@ -40,7 +40,7 @@ fn of(n: usize, count: usize) {
     let mut seen = [0usize; 15];
     let t = run(&mut seen, n, count);
     let line = Line::new().form(b"every body, n = #", &[n]);
-    print::show(judge::counts(line, &seen).tally(t));
+    print::show(seen::counts(line, &seen).tally(t));
 }
 
 pub fn bodies() {

@@ -1,9 +1,7 @@
 // Columns of document 01 that are too long to show: what build says, the record's first and last bytes, the
 // longest ask, and how much differs from the rules restated plainly.
-use crate::asks;
-use crate::judge;
 use crate::print;
-use answers::Answer;
+use judge::asks;
 use restated::columns;
 use restated::columns::Kind;
 use restated::compare;
@@ -35,29 +33,32 @@ fn ends(line: Line, bytes: &[u8], n: usize) -> Line {
         .answer(ask::ask(bytes, 0, n - 1))
 }
 
+fn record(line: Line, column: &[u32], bytes: &[u8], tally: Tally) {
+    let n = column.len();
+    let t = asks::all(tally, column, bytes, n / 16);
+    print::show(ends(line, bytes, n).tally(again(t, bytes)));
+}
+
+// How many work numbers build changes, where it answers so: none where it refuses.
+fn used(column: &[u32], size: usize) -> usize {
+    if size == 0 { 0 } else { column.len() }
+}
+
 // A column built with more work and output than it needs: the work, what is behind the record, the record.
 fn row(line: Line, column: &[u32]) {
-    let n = column.len();
     let mut work = [7u16; 32769];
     let mut out = [0xEEu8; 8197];
     let a = build::build(column, &mut work, &mut out);
-    let said = line.form(b"#:", &[n]).answer(a);
-    match a {
-        Answer::Is(size) => {
-            let bytes = part::bytes(&out, size);
-            let t = Tally::new()
-                .of(compare::cleared(&work, n))
-                .of(compare::kept(&out, size));
-            let asked = asks::all(t, column, bytes, n / 16);
-            print::show(ends(said, bytes, n).tally(again(asked, bytes)));
-        }
-        Answer::Refused(_) => {
-            let t = Tally::new()
-                .of(compare::cleared(&work, 0))
-                .of(compare::kept(&out, 0));
-            print::show(said.tally(t));
-        }
+    let size = compare::value(a, 0);
+    let t = Tally::new()
+        .of(compare::cleared(&work, used(column, size)))
+        .of(compare::kept(&out, size));
+    let said = line.form(b"#:", &[column.len()]).answer(a);
+    if size == 0 {
+        print::show(said.tally(t));
+        return;
     }
+    record(said, column, part::bytes(&out, size), t);
 }
 
 fn falling(n: usize) {

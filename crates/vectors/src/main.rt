@@ -1,14 +1,13 @@
 // Document 01, "Numbers on both sides", run: the rows that concern build, check, plain ask and stand-in,
 // each refusal and the order of those that compete, and many columns and byte strings against the rules
 // restated plainly. What is written is compared with the file stdout.
-mod asks;
 mod damage;
 mod every;
-mod judge;
 mod long;
 mod print;
 mod random;
 mod refused;
+mod seen;
 mod small;
 mod strings;
 

@@ -1,7 +1,6 @@
 // Random columns: build and each lent buffer, check, stand-in, the record again, and every ask.
-use crate::asks;
-use crate::judge;
 use crate::print;
+use judge::asks;
 use restated::columns;
 use restated::columns::Kind;
 use restated::compare;

@@ -1,6 +1,6 @@
 // Random strings of bytes with the head of a record, as long as that says, or a byte shorter or longer.
-use crate::judge;
 use crate::print;
+use crate::seen;
 use restated::part;
 use restated::plain;
 use restated::random;
@@ -30,5 +30,5 @@ pub fn all() {
     let mut seen = [0usize; 15];
     let t = run(&mut seen);
     let line = Line::new().text(b"50000 random strings");
-    print::show(judge::counts(line, &seen).tally(t));
+    print::show(seen::counts(line, &seen).tally(t));
 }

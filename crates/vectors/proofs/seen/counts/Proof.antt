@@ -1,8 +1,8 @@
--- `judge::counts` is safe and ends: r grows up to 15. Assumes nothing.
+-- `seen::counts` is safe and ends: r grows up to 15. Assumes nothing.
 use borrow.Author.Needs.{needs}
 use Prim.Native.Nat.{_-_}
-use Rattle.vectors.proofs.judge.counts.Statement.{statement}
-use Rattle.vectors.proofs.judge.counts.Tie as tie
+use Rattle.vectors.proofs.seen.counts.Statement.{statement}
+use Rattle.vectors.proofs.seen.counts.Tie as tie
 
 pub counts-spec : {M : Type 1} → statement M
 counts-spec =

@@ -1,10 +1,11 @@
 // One record or one string of bytes, against the rules restated plainly.
+pub mod asks;
+
 use restated::compare;
 use restated::part;
 use restated::plain;
 use restated::tally;
 use restated::tally::Tally;
-use shown::Line;
 
 // Whether the stand-in is written to the column and nothing else is: both columns are lent full of one marker.
 fn stood(bytes: &[u8], column: &mut [u32], like: &mut [u32]) -> bool {
@@ -76,23 +77,4 @@ pub fn string(tally: Tally, seen: &mut [usize; 15], bytes: &[u8]) -> Tally {
         return passed(t, bytes);
     }
     refused(t, bytes, r)
-}
-
-fn under(line: Line, r: usize, count: usize) -> Line {
-    if count == 0 {
-        return line;
-    }
-    if r == 0 {
-        return line.form(b"; # pass", &[count]);
-    }
-    line.form(b"; # refused #", &[count, r])
-}
-
-// How many were seen under each number.
-pub fn counts(line: Line, seen: &[usize; 15]) -> Line {
-    let mut counts = line;
-    for r in 0..15 {
-        counts = under(counts, r, seen[r]);
-    }
-    counts
 }

@@ -2,8 +2,8 @@
 use borrow.Author.Needs.{needs}
 use Prim.Native.Nat.{_≤_, _<_, _-_}
 use lib.ListN.{length}
-use Rattle.vectors.proofs.asks.from.Statement.{statement}
-use Rattle.vectors.proofs.asks.from.Tie as tie
+use Rattle.judge.proofs.asks.from.Statement.{statement}
+use Rattle.judge.proofs.asks.from.Tie as tie
 
 pub from-spec : {M : Type 1} → statement M
 from-spec =

@@ -7,7 +7,7 @@ mod text;
 
 use answers::Answer;
 ghost use mathlib.Core.Path.{_≡_};
-ghost use lib.ListN.{length};
+ghost use lib.ListN.{replicate};
 ghost use Rattle.listing.specs.Wrote.{lineRoom};
 ghost use Rattle.listing.specs.Left.{Starts, WritesLine};
 
@@ -32,7 +32,7 @@ pub struct Step {
 pub type Line = [u8; 65600];
 
 pub fn buffer() -> Line
-    ensures { λ r. ⌜ lineRoom ≡ length r ⌝ }
+    ensures { λ r. ⌜ r ≡ replicate lineRoom 0 ⌝ }
 {
     [0; 65600]
 }

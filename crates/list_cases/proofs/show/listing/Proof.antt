@@ -1,10 +1,10 @@
 -- `show::listing` is safe and ends: each line that is shown is one fewer of those left. The loop's invariant: the buffer has room for the
 -- longest line. Assumes nothing.
 use borrow.Author.Needs.{needs}
-use mathlib.Core.Path.{_≡_, sym, _∙_}
-use Prim.Native.Nat.{_≤_}
+use mathlib.Core.Path.{_≡_, sym, ap, _∙_}
+use Prim.Native.Nat.{ℕ, _≤_}
 use native.Mathlib.Omega.{arith}
-use lib.ListN.{length}
+use lib.ListN.{length, length-replicate}
 use lib.Seq.{length-take-le}
 use Rattle.listing.specs.Wrote.{lineRoom}
 use Rattle.listing.specs.Left.{linesLeft}
@@ -25,7 +25,7 @@ start-requires : tie.Need-start-requires Inv-loop μ-loop
 start-requires c κs = search needs
 
 loop-holds : tie.Need-loop-holds Inv-loop μ-loop
-loop-holds c = sym (c .before .buffer .ensures)
+loop-holds c = ap length (c .before .buffer .ensures) ∙ length-replicate {A = ℕ} lineRoom 0
 
 next-requires : tie.Need-next-requires Inv-loop μ-loop
 next-requires c κs = search needs

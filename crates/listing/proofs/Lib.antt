@@ -1,5 +1,5 @@
 pub mod Writing
 pub mod Digits
+pub mod Turned
 pub mod Parens
-pub mod Deepest
 pub mod Onward

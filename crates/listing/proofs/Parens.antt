@@ -1,20 +1,21 @@
 -- Parenthesis b of a record is bit b mod 8 of byte b/8 behind the head, and the sign that stands for it.
 -- Assumes nothing.
-use mathlib.Core.Path.{_≡_, refl, ap, _∙_}
+use mathlib.Core.Path.{_≡_, refl, ap, sym, _∙_}
 use Prim.Native.Nat.{ℕ, zero, suc, max, _+_, _-_, _*_, _/_, _%_, _^_, _≤_, _<_}
 use native.Mathlib.Nat.{pow-zero, pow-succ', div-one, div-div-eq-div-mul}
 use native.Mathlib.Decide.{decLt}
 use native.Mathlib.Omega.{arith}
 use mathlib.Core.List.{List, [], _∷_, _++_, map}
 use borrow.Author.Tests.{eq-eqb, ne-eqb}
-use lib.ListN.{length, drop, getD, length-drop, length-map, List·getD-append}
-use lib.Seq.{getD-append-add, getD-take, getD-drop}
+use lib.ListN.{length, take, drop, getD, length-take, length-drop, length-map, take-append-drop, List·getD-append}
+use lib.Seq.{getD-append-add, getD-take, getD-drop, take-all}
 use Rattle.rules.specs.Shape.{Paren, closing}
-use Rattle.rules.specs.Bytes.{paren, lowBits, allBits, parens}
-use Rattle.rules.specs.Listing.{dash, sign, shownShape}
+use Rattle.rules.specs.Bytes.{paren, lowBits, allBits, parens, unused}
+use Rattle.rules.specs.Listing.{dash, sign, greatestExcess, shownShape}
 use Rattle.rules.proofs.Bytes.{lowBits-length}
 use Rattle.rules.proofs.Checked.{Checked, parens-length}
 use Rattle.listing.specs.Bit.{bitAt}
+use Rattle.listing.proofs.Turned.{closings-behind}
 
 low-at : (k x j : ℕ) → j < k → getD (lowBits k x) j closing ≡ paren (x / 2 ^ j % 2)
 unfolding lowBits
@@ -41,6 +42,7 @@ all-at (x ∷ bs) b h = by (decLt b 8) (all-at bs (b - 8))
 
 -- what the reader of a checked record relies on
 pub record Readable (r : List ℕ) (n : ℕ) : Type 0 where
+  pub head : 4 ≤ length r
   pub short : length r ≤ 8196
   pub few : 2 * n ≤ 65536
   pub body : (b : ℕ) → b < 2 * n → 4 + b / 8 < length r
@@ -65,12 +67,23 @@ shown-some n s e = rw (ne-eqb n 0 e)
 
 module _ {r : List ℕ} {n : ℕ} (c : Checked r n) where
   pub readable : Readable r n
-  readable = record { short = omega (arith, c); few = omega (arith, c); body = λ b h. omega (arith, c) }
+  readable = record { head = omega (arith, c); short = omega (arith, c); few = omega (arith, c); body = λ b h. omega (arith, c) }
 
   pub paren-at : (b : ℕ) → b < 2 * n → getD (parens n r) b closing ≡ paren (bitAt r b)
   unfolding parens
   paren-at b h =
       rw (getD-take (2 * n) (allBits (drop 4 r)) b closing h, all-at (drop 4 r) b (omega (arith, c, length-drop 4 r)), getD-drop 4 r (b / 8) 0)
+
+  pub short-body : length (take (length r - 4) (drop 4 r)) ≤ 8192
+  short-body = omega (arith, readable, length-take (length r - 4) (drop 4 r))
+
+  -- all bytes behind the head: the unused bits are closings, and raise no excess
+  pub greatest-parens : greatestExcess (allBits (take (length r - 4) (drop 4 r))) ≡ greatestExcess (parens n r)
+  unfolding parens unused
+  greatest-parens =
+      let s = allBits (drop 4 r) in
+      rw (take-all (length r - 4) (drop 4 r) (omega (arith, length-drop 4 r)))
+      (ap greatestExcess (sym (take-append-drop (2 * n) s)) ∙ closings-behind (take (2 * n) s) (drop (2 * n) s) (c .clear))
 
   pub signs-length : length (map sign (parens n r)) ≡ 2 * n
   signs-length = length-map (parens n r) sign ∙ parens-length r n (c .framed .long)

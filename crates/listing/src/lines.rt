@@ -8,6 +8,7 @@ ghost use Rattle.rules.specs.Refusal.{answer};
 ghost use Rattle.rules.specs.Order.{checkSays};
 ghost use Rattle.rules.specs.Bytes.{parens};
 ghost use Rattle.rules.specs.Listing.{shapeLine, refusedLine, endLine, longLine, recordLine};
+ghost use Rattle.scan.specs.Rows.{rows};
 ghost use Rattle.listing.specs.Wrote.{Wrote};
 
 // The last line.
@@ -36,14 +37,15 @@ pub fn refused(k: usize, x: usize, out: &mut Line) -> usize
     text::word(b"\n", c, out)
 }
 
-// The line of record k, which passes its check and has n entries.
-fn accepted(k: usize, bytes: &[u8], n: usize, out: &mut Line) -> usize
-    requires { ⌜ checkSays (now bytes) ≡ answer n ⌝ }
+// The line of record k, which passes its check and has n entries. The unused bits of its last byte close, so
+// none of them has the greatest excess.
+fn accepted(t: &[i8; 768], k: usize, bytes: &[u8], n: usize, out: &mut Line) -> usize
+    requires { ⌜ (now t ≡ rows) × (checkSays (now bytes) ≡ answer n) ⌝ }
     ensures { λ r. ⌜ Wrote (now (out .entry)) 0 (shapeLine k n (parens n (now (bytes .entry)))) r (now (out .exit)) ⌝ }
 {
     let a = text::field(k, 0, out);
     let b = text::field(n, a, out);
-    let c = text::field(shape::greatest(bytes, n), b, out);
+    let c = text::field(shape::greatest(t, &bytes[4..]), b, out);
     let d = shape::shown(bytes, n, c, out);
     text::word(b"\n", d, out)
 }
@@ -52,8 +54,9 @@ fn accepted(k: usize, bytes: &[u8], n: usize, out: &mut Line) -> usize
 pub fn judged(k: usize, bytes: &[u8], out: &mut Line) -> usize
     ensures { λ r. ⌜ Wrote (now (out .entry)) 0 (recordLine k (now (bytes .entry))) r (now (out .exit)) ⌝ }
 {
-    match checks::check(bytes) {
-        Answer::Is(n) => accepted(k, bytes, n, out),
+    let t = scan::table();
+    match checks::check_through(&t, bytes) {
+        Answer::Is(n) => accepted(&t, k, bytes, n, out),
         Answer::Refused(x) => refused(k, answers::number_of(x), out),
     }
 }

@@ -1,12 +1,14 @@
-// The parentheses of a record that has passed its check, one at a time.
+// The parentheses of a record that has passed its check.
 use crate::Line;
+use scan::Scan;
 ghost use mathlib.Core.Path.{_≡_};
-ghost use Prim.Native.Nat.{_+_, _*_, _/_, _≤_, _<_, max};
+ghost use Prim.Native.Nat.{_+_, _*_, _/_, _≤_, _<_};
 ghost use lib.ListN.{length};
 ghost use Rattle.rules.specs.Refusal.{answer};
 ghost use Rattle.rules.specs.Order.{checkSays};
-ghost use Rattle.rules.specs.Bytes.{parens};
+ghost use Rattle.rules.specs.Bytes.{allBits, parens};
 ghost use Rattle.rules.specs.Listing.{greatestExcess, shownShape};
+ghost use Rattle.scan.specs.Rows.{rows};
 ghost use Rattle.listing.specs.Wrote.{Wrote, lineRoom};
 ghost use Rattle.listing.specs.Bit.{bitAt};
 
@@ -18,27 +20,26 @@ fn bit(bytes: &[u8], b: usize) -> usize
     ((bytes[4 + b / 8] >> (b % 8)) % 2) as usize
 }
 
-fn larger(a: usize, b: usize) -> usize
-    ensures { λ r. ⌜ r ≡ max a b ⌝ }
-{
-    if a < b { b } else { a }
-}
+// Excesses are counted from here: a record has at most 65,536 parentheses, so none is below 0.
+const GROUND: usize = 65536;
 
-// The greatest excess after any parenthesis, 0 for none.
-pub fn greatest(bytes: &[u8], n: usize) -> usize
-    requires { ⌜ checkSays (now bytes) ≡ answer n ⌝ }
-    ensures { λ r. ⌜ r ≡ greatestExcess (parens n (now (bytes .entry))) ⌝ }
+// The greatest excess after any parenthesis of these bytes, 0 for none: each byte is read once through the
+// table with its parentheses turned over, opening for closing, and what is the greatest is the smallest then.
+pub fn greatest(t: &[i8; 768], body: &[u8]) -> usize
+    requires { ⌜ (now t ≡ rows) × (length (now body) ≤ 8192) ⌝ }
+    ensures { λ r. ⌜ r ≡ greatestExcess (allBits (now (body .entry))) ⌝ }
 {
-    let mut excess = 0;
-    let mut most = 0;
-    let mut b = 0;
-    while b < 2 * n {
-        let opens = bit(bytes, b);
-        excess = excess + opens - (1 - opens);
-        most = larger(most, excess);
-        b += 1;
+    let mut st = Scan {
+        excess: GROUND,
+        smallest: GROUND,
+        place: 0,
+    };
+    let mut k = 0;
+    while k < body.len() {
+        st = st.byte(t, 8 * k, 255 - body[k]);
+        k += 1;
     }
-    most
+    GROUND - st.smallest
 }
 
 // The parentheses, or "-" where there are none.

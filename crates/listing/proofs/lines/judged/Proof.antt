@@ -7,14 +7,17 @@ use borrow.Author.Needs.{needs}
 use Rattle.listing.proofs.lines.judged.Statement.{statement}
 use Rattle.listing.proofs.lines.judged.Tie as tie
 
-check-requires : tie.Need-check-requires
-check-requires c κs = search needs
+table-requires : tie.Need-table-requires
+table-requires c κs = search needs
+
+check-through-requires : tie.Need-check-through-requires
+check-through-requires c κs = search needs
 
 enum-known-n : tie.Need-enum-known-n
 enum-known-n c = search needs
 
 accepted-requires : tie.Need-accepted-requires
-accepted-requires c κs = sym (c .before .before .before .before .check .ensures) ∙ ap said (c .before .before .n .given .1)
+accepted-requires c κs = (c .before .before .before .before .before .before .before .table .ensures, sym (c .before .before .before .before .before .check-through .ensures) ∙ ap said (c .before .before .before .n .given .1))
 
 enum-known-x : tie.Need-enum-known-x
 enum-known-x c = search needs
@@ -27,17 +30,18 @@ refused-requires c κs = search needs
 
 returns : tie.Need-returns
 unfolding recordLine
-returns c = rw (sym (c .before .before .before .before .before .check .ensures) ∙ ap said (c .before .before .before .n .given .1)) (c .accepted .ensures)
+returns c = rw (sym (c .before .before .before .before .before .before .check-through .ensures) ∙ ap said (c .before .before .before .before .n .given .1)) (c .accepted .ensures)
 
 returns-2 : tie.Need-returns-2
 unfolding recordLine
-returns-2 c = rw (sym (c .before .before .before .before .before .before .check .ensures) ∙ ap said (c .before .before .before .before .x .given .1), ← (c .before .before .number-of .ensures)) (c .refused .ensures)
+returns-2 c = rw (sym (c .before .before .before .before .before .before .check-through .ensures) ∙ ap said (c .before .before .before .before .x .given .1), ← (c .before .before .number-of .ensures)) (c .refused .ensures)
 
 pub judged-spec : {M : Type 1} → statement M
 judged-spec =
     tie.close
     (tie.spec
-    check-requires
+    table-requires
+    check-through-requires
     enum-known-n
     accepted-requires
     enum-known-x

@@ -1,66 +1,58 @@
--- `listing::shape::greatest` meets its contract. The loop's invariant: the first b parentheses are walked.
+-- `listing::shape::greatest` meets its contract. The loop's invariant: the first k bytes are read.
 -- Assumes nothing.
-use mathlib.Core.Path.{_≡_, sym, ap, _∙_}
-use Prim.Native.Nat.{_-_, _*_, _<_}
+use mathlib.Core.Path.{_≡_, refl}
+use Prim.Native.Nat.{_+_, _-_}
 use native.Mathlib.Omega.{arith}
-use lib.ListN.{length, getD}
-use Rattle.rules.specs.Shape.{closing}
-use Rattle.rules.specs.Bytes.{paren, parens}
-use Rattle.rules.proofs.Checked.{says-checked, parens-length}
-use Rattle.listing.proofs.Parens.{readable, paren-at}
-use Rattle.listing.proofs.Deepest.{Deepening, none-deep, closes-above, one-deeper, all-deep}
+use lib.ListN.{length}
+use Rattle.rules.specs.Bytes.{allBits}
+use Rattle.rules.specs.Listing.{greatestExcess}
+use Rattle.listing.proofs.Turned.{Turning, none-turned, turned-ready, one-turned, all-turned}
 use Rattle.listing.proofs.shape.greatest.Statement.{statement}
 use Rattle.listing.proofs.shape.greatest.Tie as tie
 
 abbrev Inv-loop : tie.InvT-loop
-Inv-loop bytes n excess₀ most₀ b₀ excess most b = Deepening (parens n bytes) excess most b
+Inv-loop t body st₀ k₀ st k = Turning body st k
 
 abbrev μ-loop : tie.MeasureT-loop
-μ-loop bytes n excess₀ most₀ b₀ excess most b = 2 * n - b
+μ-loop t body st₀ k₀ st k = length body - k
 
--- at a turn in which parenthesis b has been read: there is one, and the bit is its
-more : (c : tie.After-bit Inv-loop μ-loop) → c .before .before .loop .b < length (parens (c .before .before .before .before .args .n) (c .before .before .before .before .args .bytes .now))
-more c = omega (arith, parens-length (c .before .before .before .before .args .bytes .now) (c .before .before .before .before .args .n) (says-checked _ _ (c .before .before .before .before .pre) .framed .long), c .before .loop-test .taken)
-
-paren-is : (c : tie.After-bit Inv-loop μ-loop) → getD (parens (c .before .before .before .before .args .n) (c .before .before .before .before .args .bytes .now)) (c .before .before .loop .b) closing ≡ paren (c .bit .result)
-paren-is c = paren-at (says-checked _ _ (c .before .before .before .before .pre)) _ (c .before .loop-test .taken) ∙ ap paren (sym (c .bit .ensures))
+-- at the end
+adds-up : (c : tie.After-struct-known Inv-loop μ-loop) → c .before .before .loop .st .smallest + greatestExcess (allBits (c .before .before .before .before .args .body .now)) ≡ 65536
+adds-up c = all-turned (c .before .before .loop .inv) (c .before .before .before .before .pre .1) (c .before .loop-test .left)
 
 loop-holds : tie.Need-loop-holds Inv-loop μ-loop
-loop-holds c = none-deep _ (says-checked _ _ (c .before .pre) .balance)
+loop-holds c = none-turned _
 
-mul-loop : tie.Need-mul-loop Inv-loop μ-loop
-mul-loop c = omega (arith, readable (says-checked _ _ (c .before .before .pre)))
+mul-byte : tie.Need-mul-byte Inv-loop μ-loop
+mul-byte c = omega arith
 
-bit-requires : tie.Need-bit-requires Inv-loop μ-loop
-bit-requires c κs =
-    let r = readable (says-checked _ _ (c .before .before .before .pre)) in
-    (r .short, r .body _ (c .loop-test .taken))
+shared-slice-read-byte : tie.Need-shared-slice-read-byte Inv-loop μ-loop
+shared-slice-read-byte c = omega arith
 
-add-excess : tie.Need-add-excess Inv-loop μ-loop
-add-excess c = omega (arith, readable (says-checked _ _ (c .before .before .before .before .pre)), c .bit .ensures, c .before .before .loop .inv .small)
+sub-byte : tie.Need-sub-byte Inv-loop μ-loop
+sub-byte c = omega (arith, c .shared-slice-known2 .given (c .before .before .loop .k))
 
-sub-excess : tie.Need-sub-excess Inv-loop μ-loop
-sub-excess c = omega (arith, c .bit .ensures)
+byte-requires : tie.Need-byte-requires Inv-loop μ-loop
+byte-requires c κs =
+    let pre = c .before .before .before .before .pre in
+    (pre .0, turned-ready (c .before .before .loop .inv) (pre .1) (c .before .loop-test .taken), omega arith)
 
-sub-excess-2 : tie.Need-sub-excess-2 Inv-loop μ-loop
-sub-excess-2 c = closes-above (c .before .before .loop .inv) (more c) _ (paren-is c)
-
-larger-requires : tie.Need-larger-requires Inv-loop μ-loop
-larger-requires c κs = omega arith
-
-add-b : tie.Need-add-b Inv-loop μ-loop
-add-b c = omega (arith, readable (says-checked _ _ (c .before .before .before .before .before .pre)))
+add-k : tie.Need-add-k Inv-loop μ-loop
+add-k c = omega arith
 
 loop-less : tie.Need-loop-less Inv-loop μ-loop
 loop-less c = omega arith
 
 loop-again : tie.Need-loop-again Inv-loop μ-loop
 loop-again c =
-    let deeper = one-deeper (c .before .before .before .loop .inv) (more (c .before)) (c .before .bit .result) (omega (arith, c .before .bit .ensures)) (paren-is (c .before)) in
-    rw (c .larger .ensures) deeper
+    let loop = c .before .before .before .loop in
+    one-turned (loop .inv) _ (c .before .before .loop-test .taken) refl (omega (arith, c .before .shared-slice-known2 .given (loop .k))) (c .byte .ensures)
+
+sub-result : tie.Need-sub-result Inv-loop μ-loop
+sub-result c = omega (arith, adds-up c)
 
 returns : tie.Need-returns Inv-loop μ-loop
-returns c = all-deep (says-checked _ _ (c .before .before .before .pre) .balance) (c .before .loop .inv) (omega (arith, parens-length (c .before .before .before .args .bytes .now) (c .before .before .before .args .n) (says-checked _ _ (c .before .before .before .pre) .framed .long)))
+returns c = omega (arith, adds-up c)
 
 pub greatest-spec : {M : Type 1} → statement M
 greatest-spec =
@@ -69,13 +61,12 @@ greatest-spec =
     Inv-loop
     μ-loop
     loop-holds
-    mul-loop
-    bit-requires
-    add-excess
-    sub-excess
-    sub-excess-2
-    larger-requires
-    add-b
+    mul-byte
+    shared-slice-read-byte
+    sub-byte
+    byte-requires
+    add-k
     loop-less
     loop-again
+    sub-result
     returns)

@@ -1,11 +1,10 @@
 // Appends in a row into one buffer, then what find and hand-out say of each record.
 use crate::appends;
-use crate::drawers;
-use crate::drawers::Kind;
 use crate::finds;
 use crate::print;
-use crate::seen;
-use answers::Answer;
+use drawers::appends as made;
+use drawers::kinds;
+use drawers::kinds::Kind;
 use restated::columns;
 use restated::compare;
 use restated::part;
@@ -22,8 +21,8 @@ fn next(
 ) -> usize {
     let room = buffer.len();
     let numbers = work.len();
-    let a = appends::append(buffer, work, n, room, old, numbers);
-    let line = appends::named(n).form(b" behind #:", &[old]);
+    let a = made::append(buffer, work, n, room, old, numbers);
+    let line = made::named(n).form(b" behind #:", &[old]);
     appends::left(seen, line, buffer, work, a);
     compare::value(a, old)
 }
@@ -41,25 +40,12 @@ pub fn three(seen: &mut [usize; 15]) {
     finds::each(seen, part::bytes(&buffer, end), &[0, 1, 2, 3]);
 }
 
-// One append behind the used bytes, counted.
-fn quiet(
-    seen: &mut [usize; 15],
-    buffer: &mut [u8],
-    work: &mut [u16],
-    old: usize,
-    column: &[u32],
-) -> Answer {
-    let a = append::append(buffer, old, column, work);
-    seen::answer(seen, a);
-    a
-}
-
 // A record of five entries and one of none behind 63 records.
 fn two(seen: &mut [usize; 15], buffer: &mut [u8]) -> usize {
     let mut work = [7u16; 5];
-    let a = quiet(seen, buffer, &mut work, 283, &[4, 2, 4, 2, 9]);
+    let a = made::quiet(seen, buffer, &mut work, 283, &[4, 2, 4, 2, 9]);
     let end = compare::value(a, 283);
-    let b = quiet(seen, buffer, &mut work, end, &[]);
+    let b = made::quiet(seen, buffer, &mut work, end, &[]);
     print::show(Line::new().text(b"behind 63 records\n").answer(a).answer(b));
     end
 }
@@ -67,22 +53,10 @@ fn two(seen: &mut [usize; 15], buffer: &mut [u8]) -> usize {
 // Record 63 behind 63 records, and no record 64.
 pub fn last(seen: &mut [usize; 15]) {
     let mut buffer = [0xEEu8; 300];
-    drawers::fill(part::bytes_mut(&mut buffer, 283), Kind::InTurn);
+    kinds::fill(part::bytes_mut(&mut buffer, 283), Kind::InTurn);
     let end = two(seen, &mut buffer);
     print::show(Line::new().text(b"\n"));
     finds::each(seen, part::bytes(&buffer, end), &[0, 62, 63, 64]);
-}
-
-// Seventy appends into one buffer, of columns of 0 to 69 entries.
-fn grow(seen: &mut [usize; 15], buffer: &mut [u8], work: &mut [u16], column: &[u32]) -> usize {
-    let mut end = 0;
-    let mut k = 0;
-    while k < 70 {
-        let a = quiet(seen, buffer, work, end, part::counts(column, k));
-        end = compare::value(a, end);
-        k += 1;
-    }
-    end
 }
 
 fn each(seen: &mut [usize; 15], bytes: &[u8]) {
@@ -107,7 +81,7 @@ pub fn many(seen: &mut [usize; 15]) {
     let mut work = [7u16; 72];
     let mut column = [0u32; 70];
     columns::fill(&mut column, columns::Kind::Scattered, 0);
-    let end = grow(seen, &mut buffer, &mut work, &column);
+    let end = made::grow(seen, &mut buffer, &mut work, &column);
     show(&buffer, &work, end);
     each(seen, part::bytes(&buffer, end));
 }

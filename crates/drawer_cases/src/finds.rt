@@ -1,8 +1,9 @@
 // Find and hand-out over drawers of 63, 64 and 65 records, and of 65,536 and 65,537 bytes.
-use crate::drawers;
-use crate::drawers::Kind;
 use crate::print;
-use crate::seen;
+use drawers::kinds;
+use drawers::kinds::Kind;
+use drawers::seen;
+use drawers::told;
 use restated::part;
 use shown::Line;
 
@@ -10,8 +11,8 @@ use shown::Line;
 pub fn find(seen: &mut [usize; 15], bytes: &[u8], r: usize) {
     let f = drawer::find(bytes, r);
     seen::found(seen, f);
-    let line = print::found(Line::new().form(b"  find #:", &[r]), f);
-    print::show(print::part(line, drawer::hand_out(bytes, r)));
+    let line = told::found(Line::new().form(b"  find #:", &[r]), f);
+    print::show(told::part(line, drawer::hand_out(bytes, r)));
 }
 
 pub fn each(seen: &mut [usize; 15], bytes: &[u8], records: &[usize]) {
@@ -39,7 +40,7 @@ fn records(seen: &mut [usize; 15], bytes: &[u8], count: usize, size: usize) {
 // Records of no entries and of one entry in turn: 63, 64 and 65 of them.
 pub fn counts(seen: &mut [usize; 15]) {
     let mut bytes = [0u8; 292];
-    drawers::fill(&mut bytes, Kind::InTurn);
+    kinds::fill(&mut bytes, Kind::InTurn);
     records(seen, &bytes, 63, 283);
     records(seen, &bytes, 64, 288);
     records(seen, &bytes, 65, 292);
@@ -54,7 +55,7 @@ fn around(seen: &mut [usize; 15], bytes: &[u8]) {
 
 fn filled(seen: &mut [usize; 15], kind: Kind, count: &[u8]) {
     let mut bytes = [0u8; 65537];
-    drawers::fill(&mut bytes, kind);
+    kinds::fill(&mut bytes, kind);
     print::show(Line::new().text(count).text(b" records in 65536 bytes\n"));
     around(seen, &bytes);
 }

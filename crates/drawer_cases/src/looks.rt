@@ -1,16 +1,17 @@
 // The look through two drawers, and which of them decides.
-use crate::drawers;
-use crate::drawers::Kind;
 use crate::print;
-use crate::seen;
+use drawers::kinds;
+use drawers::kinds::Kind;
+use drawers::seen;
+use drawers::told;
 use restated::part;
 use shown::Line;
 
 fn look<'a>(seen: &mut [usize; 15], own: &'a [u8], shared: &'a [u8], r: usize) {
     let w = drawer::which(own, shared, r);
     seen::whence(seen, w);
-    let line = print::whence(Line::new().form(b"  look #:", &[r]), w);
-    print::show(print::part(line, drawer::look(own, shared, r)));
+    let line = told::whence(Line::new().form(b"  look #:", &[r]), w);
+    print::show(told::part(line, drawer::look(own, shared, r)));
 }
 
 fn both<'a>(seen: &mut [usize; 15], own: &'a [u8], shared: &'a [u8]) {
@@ -91,6 +92,6 @@ fn beside(seen: &mut [usize; 15], bytes: &[u8]) {
 
 pub fn long(seen: &mut [usize; 15]) {
     let mut bytes = [0u8; 65537];
-    drawers::fill(&mut bytes, Kind::OfMost);
+    kinds::fill(&mut bytes, Kind::OfMost);
     beside(seen, &bytes);
 }

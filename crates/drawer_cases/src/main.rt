@@ -3,7 +3,6 @@
 // what it changes. What is written is compared with the file stdout.
 mod appends;
 mod chains;
-mod drawers;
 mod faults;
 mod finds;
 mod limits;

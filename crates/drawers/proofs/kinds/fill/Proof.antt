@@ -1,10 +1,10 @@
--- `drawers::fill` is safe and ends: k grows up to the length, which stays. Assumes nothing.
+-- `kinds::fill` is safe and ends: k grows up to the length, which stays. Assumes nothing.
 use borrow.Author.Needs.{needs}
 use mathlib.Core.Path.{_≡_}
 use Prim.Native.Nat.{_-_}
 use lib.ListN.{length}
-use Rattle.drawer_cases.proofs.drawers.fill.Statement.{statement}
-use Rattle.drawer_cases.proofs.drawers.fill.Tie as tie
+use Rattle.drawers.proofs.kinds.fill.Statement.{statement}
+use Rattle.drawers.proofs.kinds.fill.Tie as tie
 
 pub fill-spec : {M : Type 1} → statement M
 fill-spec =

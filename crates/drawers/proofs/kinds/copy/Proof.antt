@@ -1,10 +1,10 @@
--- `drawers::copy` is safe and ends: k grows up to the length of what is copied. Assumes nothing.
+-- `kinds::copy` is safe and ends: k grows up to the length of what is copied. Assumes nothing.
 use borrow.Author.Needs.{needs}
 use mathlib.Core.Path.{_≡_}
 use Prim.Native.Nat.{_≤_, _-_}
 use lib.ListN.{length}
-use Rattle.drawer_cases.proofs.drawers.copy.Statement.{statement}
-use Rattle.drawer_cases.proofs.drawers.copy.Tie as tie
+use Rattle.drawers.proofs.kinds.copy.Statement.{statement}
+use Rattle.drawers.proofs.kinds.copy.Tie as tie
 
 pub copy-spec : {M : Type 1} → statement M
 copy-spec =

@@ -1,10 +1,10 @@
--- `chains::grow` is safe and ends: k grows up to 70. Assumes nothing.
+-- `appends::grow` is safe and ends: k grows up to 70. Assumes nothing.
 use borrow.Author.Needs.{needs}
 use mathlib.Core.Path.{_≡_}
 use Prim.Native.Nat.{_-_}
 use lib.ListN.{length}
-use Rattle.drawer_cases.proofs.chains.grow.Statement.{statement}
-use Rattle.drawer_cases.proofs.chains.grow.Tie as tie
+use Rattle.drawers.proofs.appends.grow.Statement.{statement}
+use Rattle.drawers.proofs.appends.grow.Tie as tie
 
 pub grow-spec : {M : Type 1} → statement M
 grow-spec =

@@ -26,7 +26,7 @@ pub fn nth(b: u8, k: usize) -> u32
 
 // The state behind byte b of a scan that begins at the closing at its bit x, after which the excess
 // is e. What is before x is read as closings, each of which leaves more than e.
-pub fn behind(t: &[i8; 768], at: usize, b: u8, x: u32, e: usize) -> Scan
+pub fn behind(t: &scan::RowTable, at: usize, b: u8, x: u32, e: usize) -> Scan
     requires { ⌜ (now t ≡ rows) × Begins at b x e ⌝ }
     ensures { λ r. ⌜ r ≡ scanOf (begun e (at + x)) (at + x + 1) (drop (x + 1) (lowBits 8 b)) ⌝ }
 {
@@ -51,7 +51,7 @@ fn without(st: Scan, u: u32) -> Scan
 }
 
 // The state after the first k parentheses of byte b. What is behind them is read as openings.
-pub fn upto(st: Scan, t: &[i8; 768], at: usize, b: u8, k: u32) -> Scan
+pub fn upto(st: Scan, t: &scan::RowTable, at: usize, b: u8, k: u32) -> Scan
     requires { ⌜ (now t ≡ rows) × Ready st 8 × (at ≤ 1048576) × (0 < k) × (k ≤ 8) ⌝ }
     ensures { λ r. ⌜ r ≡ scanOf st at (take k (lowBits 8 b)) ⌝ }
 {
@@ -59,7 +59,7 @@ pub fn upto(st: Scan, t: &[i8; 768], at: usize, b: u8, k: u32) -> Scan
 }
 
 // The same of a scan that begins at the closing at bit x.
-pub fn within(t: &[i8; 768], at: usize, b: u8, x: u32, e: usize, k: u32) -> Scan
+pub fn within(t: &scan::RowTable, at: usize, b: u8, x: u32, e: usize, k: u32) -> Scan
     requires { ⌜ (now t ≡ rows) × Begins at b x e × (x < k) × (k ≤ 8) ⌝ }
     ensures { λ r. ⌜ r ≡ scanOf (begun e (at + x)) (at + x + 1) (drop (x + 1) (take k (lowBits 8 b))) ⌝ }
 {

@@ -27,7 +27,7 @@ fn closings(p: usize, e: usize) -> usize
 
 // The scan that begins with closing i and ends with closing j: a part of closing i's byte, and where
 // closing j is not in it the whole bytes behind it and a part of closing j's.
-fn lowest(t: &[i8; 768], body: &[u8], i: usize, j: usize) -> Scan
+fn lowest(t: &scan::RowTable, body: &[u8], i: usize, j: usize) -> Scan
     requires { ⌜ (now t ≡ rows) × Asked (now body) i j ⌝ }
     ensures { λ r. ⌜ r ≡ seenBetween (allBits (now (body .entry))) i j ⌝ }
 {
@@ -48,7 +48,7 @@ fn lowest(t: &[i8; 768], body: &[u8], i: usize, j: usize) -> Scan
 }
 
 // The entry whose closing is the leftmost place of smallest excess from closing i to closing j.
-fn between(t: &[i8; 768], bytes: &[u8], i: usize, j: usize) -> usize
+fn between(t: &scan::RowTable, bytes: &[u8], i: usize, j: usize) -> usize
     requires { ⌜ (now t ≡ rows) × Taken (now bytes) i j ⌝ }
     ensures { λ r. ⌜ r ≡ entryBetween (parens (entries (now (bytes .entry))) (now (bytes .entry))) i j ⌝ }
 {

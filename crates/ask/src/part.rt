@@ -23,7 +23,7 @@ pub struct Stop {
 // Closing number k of these bytes, the first of whose parentheses stands at place at. The excess
 // tells how many closings have been read: it is ground, one more for each parenthesis, and two less
 // for each that closes.
-pub fn seek(st: Scan, t: &[i8; 768], part: &[u8], at: usize, k: usize) -> Stop
+pub fn seek(st: Scan, t: &scan::RowTable, part: &[u8], at: usize, k: usize) -> Stop
     requires { ⌜ (now t ≡ rows) × Ahead st at (now part) k ⌝ }
     ensures { λ r. ⌜ Stops st at (now (part .entry)) k r ⌝ }
 {
@@ -76,7 +76,7 @@ fn skip(part: &[u8], k: usize) -> Skipped
 
 // Closing number k of these bytes, whose first parenthesis is the record's. Nothing before it is sought
 // as the smallest, so the bytes before it are only counted, up to the last few.
-pub fn find(t: &[i8; 768], part: &[u8], k: usize) -> Stop
+pub fn find(t: &scan::RowTable, part: &[u8], k: usize) -> Stop
     requires { ⌜ (now t ≡ rows) × (8 * length (now part) ≤ ground) × (k < closings (allBits (now part))) ⌝ }
     ensures { λ r. ⌜ Stops outset 0 (now (part .entry)) k r ⌝ }
 {
@@ -97,7 +97,7 @@ pub fn find(t: &[i8; 768], part: &[u8], k: usize) -> Stop
 }
 
 // The state just behind closing number k of these bytes.
-pub fn through(st: Scan, t: &[i8; 768], part: &[u8], at: usize, k: usize) -> Scan
+pub fn through(st: Scan, t: &scan::RowTable, part: &[u8], at: usize, k: usize) -> Scan
     requires { ⌜ (now t ≡ rows) × Ahead st at (now part) k ⌝ }
     ensures { λ r. ⌜ r ≡ scanOf st at (take (closingPlace (allBits (now (part .entry))) k + 1) (allBits (now (part .entry)))) ⌝ }
 {

@@ -48,7 +48,7 @@ pub fn frame(bytes: &[u8]) -> Answer
 
 // Whether the parentheses of a whole record are balanced, by one scan of its bytes. The unused bits of
 // the last byte are read as openings, which are never the smallest.
-fn in_balance(t: &[i8; 768], bytes: &[u8], n: usize) -> bool
+fn in_balance(t: &scan::RowTable, bytes: &[u8], n: usize) -> bool
     requires { ⌜ (now t ≡ rows) × Whole (now bytes) n × (0 < n) ⌝ }
     ensures { λ r. ⌜ r ≡ balanced (parens n (now (bytes .entry))) ⌝ }
 {
@@ -69,7 +69,7 @@ fn in_balance(t: &[i8; 768], bytes: &[u8], n: usize) -> bool
 }
 
 // 11, 6 and 7 of a framed record of n entries.
-fn inside(t: &[i8; 768], bytes: &[u8], n: usize) -> Answer
+fn inside(t: &scan::RowTable, bytes: &[u8], n: usize) -> Answer
     requires { ⌜ (now t ≡ rows) × (n ≤ most) × (recordLength n ≤ length (now bytes)) ⌝ }
     ensures { λ r. ⌜ said r ≡ insideSays (now (bytes .entry)) n ⌝ }
 {
@@ -91,7 +91,7 @@ fn inside(t: &[i8; 768], bytes: &[u8], n: usize) -> Answer
 }
 
 // The record check through a table that is lent: who goes on reading the record takes the table once.
-pub fn check_through(t: &[i8; 768], bytes: &[u8]) -> Answer
+pub fn check_through(t: &scan::RowTable, bytes: &[u8]) -> Answer
     requires { ⌜ now t ≡ rows ⌝ }
     ensures { λ r. ⌜ said r ≡ checkSays (now (bytes .entry)) ⌝ }
 {

@@ -39,7 +39,7 @@ pub fn refused(k: usize, x: usize, out: &mut Line) -> usize
 
 // The line of record k, which passes its check and has n entries. The unused bits of its last byte close, so
 // none of them has the greatest excess.
-fn accepted(t: &[i8; 768], k: usize, bytes: &[u8], n: usize, out: &mut Line) -> usize
+fn accepted(t: &scan::RowTable, k: usize, bytes: &[u8], n: usize, out: &mut Line) -> usize
     requires { ⌜ (now t ≡ rows) × (checkSays (now bytes) ≡ answer n) ⌝ }
     ensures { λ r. ⌜ Wrote (now (out .entry)) 0 (shapeLine k n (parens n (now (bytes .entry)))) r (now (out .exit)) ⌝ }
 {

@@ -25,7 +25,7 @@ const GROUND: usize = 65536;
 
 // The greatest excess after any parenthesis of these bytes, 0 for none: each byte is read once through the
 // table with its parentheses turned over, opening for closing, and what is the greatest is the smallest then.
-pub fn greatest(t: &[i8; 768], body: &[u8]) -> usize
+pub fn greatest(t: &scan::RowTable, body: &[u8]) -> usize
     requires { ⌜ (now t ≡ rows) × (length (now body) ≤ 8192) ⌝ }
     ensures { λ r. ⌜ r ≡ greatestExcess (allBits (now (body .entry))) ⌝ }
 {

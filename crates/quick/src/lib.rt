@@ -73,7 +73,7 @@ fn stands(body: &[u8], t: &[u16], k: usize, i: usize) -> usize
 }
 
 // The last block's part, where it can be lower than what stands lowest so far.
-fn finish(rows: &[i8; 768], body: &[u8], t: &[u16], b: usize, j: usize, best: Scan) -> Scan
+fn finish(rows: &scan::RowTable, body: &[u8], t: &[u16], b: usize, j: usize, best: Scan) -> Scan
     requires { ⌜ (now rows ≡ table) × Given (now body) (now t) × Block (now body) b × (j < 32768) × (best .smallest ≤ 1048576) ⌝ }
     ensures { λ r. ⌜ Finishes (now (body .entry)) (now (t .entry)) b j best r ⌝ }
 {
@@ -92,7 +92,7 @@ fn finish(rows: &[i8; 768], body: &[u8], t: &[u16], b: usize, j: usize, best: Sc
 // Where a block between the first and the last stands lowest so far: the last one's part, and if that is not
 // lower, the block that the tree leads to.
 fn beyond(
-    rows: &[i8; 768],
+    rows: &scan::RowTable,
     body: &[u8],
     t: &[u16],
     a: usize,

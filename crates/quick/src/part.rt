@@ -11,7 +11,7 @@ ghost use Rattle.scan.specs.Scan.{Ready};
 ghost use Rattle.quick.specs.Part.{endOf, ClosingAt, Lent, Near, Runs, FromClosing, GoesOn, EndsIn, Reaches};
 
 // Bytes until they end or the smallest is as low as stop.
-fn run(st: Scan, t: &[i8; 768], part: &[u8], at: usize, stop: usize) -> Scan
+fn run(st: Scan, t: &scan::RowTable, part: &[u8], at: usize, stop: usize) -> Scan
     requires { ⌜ (now t ≡ rows) × Ready st (8 * length (now part)) × (at + 8 * length (now part) ≤ 1048576) ⌝ }
     ensures { λ r. ⌜ Runs st at (now (part .entry)) stop r ⌝ }
 {
@@ -39,7 +39,7 @@ pub fn end_of(body: &[u8], k: usize) -> usize
 }
 
 // From the closing at place x, after which the excess is e, to the end of its block k.
-pub fn behind(t: &[i8; 768], body: &[u8], k: usize, x: usize, e: usize, stop: usize) -> Scan
+pub fn behind(t: &scan::RowTable, body: &[u8], k: usize, x: usize, e: usize, stop: usize) -> Scan
     requires { ⌜ (now t ≡ rows) × Lent (now body) × (k ≤ 255) × ClosingAt (now body) k x × Near e ⌝ }
     ensures { λ r. ⌜ FromClosing (now (body .entry)) x (8 * endOf (now (body .entry)) k) e stop r ⌝ }
 {
@@ -52,7 +52,7 @@ pub fn behind(t: &[i8; 768], body: &[u8], k: usize, x: usize, e: usize, stop: us
 
 // Byte b, whose first bit stands at place at, up to closing number j of the body. Where the excess is no true
 // one, so that the closing is not in this byte, nothing of it.
-fn last(here: Scan, t: &[i8; 768], at: usize, b: u8, j: usize) -> Scan
+fn last(here: Scan, t: &scan::RowTable, at: usize, b: u8, j: usize) -> Scan
     requires { ⌜ (now t ≡ rows) × Ready here 8 × (at ≤ 65536) × (j < 32768) ⌝ }
     ensures { λ r. ⌜ EndsIn here at b j r ⌝ }
 {
@@ -75,7 +75,7 @@ fn last(here: Scan, t: &[i8; 768], at: usize, b: u8, j: usize) -> Scan
 
 // From the start of block k, in state st, up to closing number j of the body: it stands in the first byte
 // behind which more than j closings are counted.
-pub fn upto(st: Scan, t: &[i8; 768], body: &[u8], k: usize, j: usize, stop: usize) -> Scan
+pub fn upto(st: Scan, t: &scan::RowTable, body: &[u8], k: usize, j: usize, stop: usize) -> Scan
     requires { ⌜ (now t ≡ rows) × Lent (now body) × (k ≤ 255) × (32 * k ≤ length (now body)) × (j < 32768) × Ready st 256 ⌝ }
     ensures { λ r. ⌜ Reaches (now (body .entry)) k j st stop r ⌝ }
 {
@@ -100,7 +100,7 @@ pub fn upto(st: Scan, t: &[i8; 768], body: &[u8], k: usize, j: usize, stop: usiz
 
 // From the closing at place x, after which the excess is e, up to the closing at place y of the same block.
 pub fn within(
-    t: &[i8; 768],
+    t: &scan::RowTable,
     body: &[u8],
     k: usize,
     x: usize,
@@ -126,7 +126,7 @@ pub fn within(
 }
 
 // All of block k, before which the excess is e.
-pub fn whole(t: &[i8; 768], body: &[u8], k: usize, e: usize, stop: usize) -> Scan
+pub fn whole(t: &scan::RowTable, body: &[u8], k: usize, e: usize, stop: usize) -> Scan
     requires { ⌜ (now t ≡ rows) × Lent (now body) × (k ≤ 255) × (32 * k ≤ length (now body)) × Near e ⌝ }
     ensures { λ r. ⌜ GoesOn (now (body .entry)) (256 * k) (8 * endOf (now (body .entry)) k) (record { excess = e; smallest = 1048576; place = 0 }) stop r ⌝ }
 {

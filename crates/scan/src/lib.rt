@@ -11,16 +11,19 @@ ghost use Rattle.rules.specs.Bytes.{lowBits, allBits};
 ghost use Rattle.scan.specs.Rows.{rows, cell};
 ghost use Rattle.scan.specs.Scan.{Ready, scanOf};
 
+// The table, row after row.
+pub type RowTable = [i8; 768];
+
 // The table as a value. An entry point takes it once and lends it: a constant is built anew at each
 // use.
-pub fn table() -> [i8; 768]
+pub fn table() -> RowTable
     ensures { λ r. ⌜ r ≡ rows ⌝ }
 {
     rows::ROWS
 }
 
 // The number at place k of the table, counted from -8.
-fn shifted(t: &[i8; 768], k: usize) -> usize
+fn shifted(t: &RowTable, k: usize) -> usize
     requires { ⌜ (now t ≡ rows) × (k < 768) ⌝ }
     ensures { λ r. ⌜ r ≡ cell k ⌝ }
 {
@@ -36,7 +39,7 @@ pub struct Scan {
 
 impl Scan {
     // The state after the eight parentheses of byte b, the first of which stands at place at.
-    pub fn byte(self, t: &[i8; 768], at: usize, b: u8) -> Scan
+    pub fn byte(self, t: &RowTable, at: usize, b: u8) -> Scan
         requires { ⌜ (now t ≡ rows) × Ready self 8 × (at ≤ 1048576) ⌝ }
         ensures { λ r. ⌜ r ≡ scanOf self at (lowBits 8 b) ⌝ }
     {
@@ -59,7 +62,7 @@ impl Scan {
     }
 
     // The state after all parentheses of these bytes, the first of which stands at place at, byte by byte.
-    fn each(self, t: &[i8; 768], part: &[u8], at: usize) -> Scan
+    fn each(self, t: &RowTable, part: &[u8], at: usize) -> Scan
         requires { ⌜ (now t ≡ rows) × Ready self (8 * length (now part)) × (at + 8 * length (now part) ≤ 1048576) ⌝ }
         ensures { λ r. ⌜ r ≡ scanOf self at (allBits (now (part .entry))) ⌝ }
     {
@@ -74,7 +77,7 @@ impl Scan {
 
     // The state after the eight bytes from number k on. From an excess of 64 or more above the smallest
     // none of their parentheses goes below it: then only the closings count, and no row is looked up.
-    fn eight(self, t: &[i8; 768], part: &[u8], k: usize, at: usize) -> Scan
+    fn eight(self, t: &RowTable, part: &[u8], k: usize, at: usize) -> Scan
         requires { ⌜ (now t ≡ rows) × Ready self 64 × (k + 8 ≤ length (now part)) × (at + 64 ≤ 1048576) ⌝ }
         ensures { λ r. ⌜ r ≡ scanOf self at (allBits (take 8 (drop k (now (part .entry))))) ⌝ }
     {
@@ -92,7 +95,7 @@ impl Scan {
 
     // The state after all parentheses of these bytes, the first of which stands at place at: eight bytes
     // at a time, then those that are left.
-    pub fn bytes(self, t: &[i8; 768], part: &[u8], at: usize) -> Scan
+    pub fn bytes(self, t: &RowTable, part: &[u8], at: usize) -> Scan
         requires { ⌜ (now t ≡ rows) × Ready self (8 * length (now part)) × (at + 8 * length (now part) ≤ 1048576) ⌝ }
         ensures { λ r. ⌜ r ≡ scanOf self at (allBits (now (part .entry))) ⌝ }
     {

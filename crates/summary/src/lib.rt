@@ -61,7 +61,7 @@ fn note(summary: &mut [u16], k: usize, c: usize, d: usize, end: usize, smallest:
 }
 
 // The blocks of 256 parentheses. It gives back the excess behind them.
-fn whole(t: &[i8; 768], bytes: &[u8], n: usize, summary: &mut [u16]) -> usize
+fn whole(t: &scan::RowTable, bytes: &[u8], n: usize, summary: &mut [u16]) -> usize
     requires { ⌜ (now t ≡ rows) × Taken (now bytes) n (now summary) ⌝ }
     ensures { λ r. ⌜ Reaches (parens n (now (bytes .entry))) (n / 128) (now (summary .entry)) (now (summary .exit)) r ⌝ }
 {
@@ -93,7 +93,7 @@ fn fresh(excess: usize) -> Scan
 
 // The last block, where it is short. It ends at an excess of 0 and with closing n - 1. The unused bits of its
 // last byte are read as openings, which are never the smallest.
-fn last(t: &[i8; 768], bytes: &[u8], n: usize, excess: usize, summary: &mut [u16])
+fn last(t: &scan::RowTable, bytes: &[u8], n: usize, excess: usize, summary: &mut [u16])
     requires { ⌜ (now t ≡ rows) × Taken (now bytes) n (now summary) × Before (parens n (now bytes)) (n / 128) excess × (128 * (n / 128) < n) ⌝ }
     ensures { λ _. ⌜ Lays (parens n (now (bytes .entry))) (n / 128) (n / 128 + 1) (now (summary .entry)) (now (summary .exit)) ⌝ }
 {
@@ -110,7 +110,7 @@ fn last(t: &[i8; 768], bytes: &[u8], n: usize, excess: usize, summary: &mut [u16
 }
 
 // All slots but the tree's inner nodes: one pass over the bytes.
-fn blocks(t: &[i8; 768], bytes: &[u8], n: usize, summary: &mut [u16])
+fn blocks(t: &scan::RowTable, bytes: &[u8], n: usize, summary: &mut [u16])
     requires { ⌜ (now t ≡ rows) × Taken (now bytes) n (now summary) ⌝ }
     ensures { λ _. ⌜ Lays (parens n (now (bytes .entry))) 0 (blocksFor n) (now (summary .entry)) (now (summary .exit)) ⌝ }
 {

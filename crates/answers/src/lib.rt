@@ -1,10 +1,12 @@
 // What an entry point answers: a number that its rule names, or a refusal. specs/Said.antt gives the
 // document's number for each case, and every contract speaks through it.
+#![tactic(auto)]
+
 ghost use Rattle.std.specs.Prelude.{◌≡◌};
 ghost use Rattle.answers.specs.Said.{number};
 
 // The refusals of document 01, in the order of their numbers from 1 to 14.
-#[derive(Drop)]
+#[derive(Clone, Copy)]
 pub enum Refusal {
     TooManyEntries,
     OutputShort,
@@ -23,7 +25,7 @@ pub enum Refusal {
 }
 
 // A length, a place or a count, as the entry point's rule says; or a refusal.
-#[derive(Drop)]
+#[derive(Clone, Copy)]
 pub enum Answer {
     Is(usize),
     Refused(Refusal),

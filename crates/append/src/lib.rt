@@ -1,4 +1,6 @@
 // Document 01, "Order of checks": append. The new record goes straight into the buffer behind the used bytes.
+#![tactic(auto)]
+
 ghost use Rattle.std.specs.Prelude.{◌≡◌};
 ghost use Rattle.rules.specs.Drawer.{records_in};
 ghost use Rattle.answers.specs.Said.{said};

@@ -1,5 +1,7 @@
 // Plain ask: from a record alone. Behind the record check the bytes before closing i's are counted, and each
 // from there to closing j's is read through the table.
+#![tactic(auto)]
+
 pub mod byte;
 pub mod part;
 

@@ -13,7 +13,7 @@ use scan::Scan;
 pub const GROUND: usize = 65536;
 
 // The byte in which a closing stands and its bit there, with the state before that byte.
-#[derive(Drop)]
+#[derive(Clone, Copy)]
 pub struct Stop {
     pub scan: Scan,
     pub byte: usize,
@@ -45,7 +45,7 @@ pub fn seek(st: Scan, t: &scan::RowTable, part: &[u8], at: usize, k: usize) -> S
 }
 
 // Some bytes before a closing's, and the closings among them.
-#[derive(Drop)]
+#[derive(Clone, Copy)]
 pub struct Skipped {
     pub bytes: usize,
     pub closings: usize,

@@ -6,7 +6,7 @@ ghost use Rattle.rules.specs.Bytes.{low_bits};
 ghost use Rattle.blocks.specs.Select.{Leads};
 
 // Closing number k of the lowest of these bits is asked for, the first of which stands at place at.
-#[derive(Drop)]
+#[derive(Clone, Copy)]
 pub struct Narrow {
     pub bits: u64,
     pub k: usize,

@@ -1,6 +1,8 @@
 // The way to a closing: which block it stands in, by the summary, and where in the block, by its bits.
 // Nothing here asks that the bytes be a record's or the numbers its summary: every function ends, and
 // stays inside what it is lent, for any.
+#![tactic(auto)]
+
 pub mod byte;
 pub mod word;
 

@@ -1,4 +1,6 @@
 // Build: a column's record, written in one pass from the right end of the column.
+#![tactic(auto)]
+
 mod pen;
 
 ghost use Rattle.std.specs.Prelude.{◌/◌, ◌%◌, ◌≤◌, ◌≡◌, ◌∷◌, ◌++◌, length, drop, replicate};

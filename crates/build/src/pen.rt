@@ -4,7 +4,7 @@ ghost use Rattle.rules.specs.Shape.{opening, closing};
 ghost use Rattle.build.specs.Writes.{Ready, Writes};
 
 // `left` bytes of the body are still to come; `held` parentheses, fewer than eight, wait in `acc`.
-#[derive(Drop)]
+#[derive(Clone, Copy)]
 pub struct Pen {
     pub left: usize,
     pub held: usize,

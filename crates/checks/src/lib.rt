@@ -1,4 +1,6 @@
 // Document 01, "Order of checks": frame and record check. Both read bytes and change nothing.
+#![tactic(auto)]
+
 ghost use Rattle.std.specs.Prelude.{◌≡◌, ◌≤◌, ◌<◌, length};
 ghost use Rattle.rules.specs.Excess.{balanced};
 ghost use Rattle.rules.specs.Bytes.{most, record_length, entries, parens};

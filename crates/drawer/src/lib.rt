@@ -1,5 +1,7 @@
 // Document 01, "Order of checks": find, the hand-out, and the look through two drawers. All of them read
 // bytes and change nothing; a find walks the records' heads alone, and judges no bit inside.
+#![tactic(auto)]
+
 ghost use Rattle.std.specs.Prelude.{◌≡◌, ◌+◌, ◌≤◌, eqb, length, take, drop};
 ghost use Rattle.rules.specs.Drawer.{find_says, hand_out, in_shared, look_says, look_part, which_says};
 ghost use Rattle.answers.specs.Said.{number};
@@ -8,14 +10,14 @@ ghost use Rattle.drawer.specs.Said.{said_found, said_choice, said_whence};
 use answers::{Answer, Refusal};
 
 // A record's place and length, or a refusal.
-#[derive(Drop)]
+#[derive(Clone, Copy)]
 pub enum Found {
     At(usize, usize),
     Refused(Refusal),
 }
 
 // The drawer that the part of a look comes from, or the one that refused.
-#[derive(Drop)]
+#[derive(Clone, Copy)]
 pub enum Whence {
     Own,
     Shared,
@@ -24,7 +26,7 @@ pub enum Whence {
 }
 
 // What a look decides: the drawer, with the place and the length, or with the refusal.
-#[derive(Drop)]
+#[derive(Clone, Copy)]
 enum Choice {
     Own(usize, usize),
     Shared(usize, usize),

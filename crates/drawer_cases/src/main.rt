@@ -1,6 +1,8 @@
 // Document 01's drawers, run: find, hand-out, look and which over drawers on both sides of each limit and with
 // faults before, at and behind the record asked for; append with every two refusals that compete, and with
 // what it changes. What is written is compared with the file stdout.
+#![tactic(auto)]
+
 mod appends;
 mod chains;
 mod faults;

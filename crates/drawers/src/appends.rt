@@ -65,7 +65,7 @@ pub fn kind(k: usize) -> Kind {
     Kind::OfMost
 }
 
-#[derive(Drop)]
+#[derive(Clone, Copy)]
 pub struct Sums {
     pub bytes: usize,
     pub numbers: usize,

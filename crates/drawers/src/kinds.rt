@@ -37,7 +37,7 @@ fn of_most(k: usize) -> u8 {
     0xA5
 }
 
-#[derive(Drop)]
+#[derive(Clone, Copy)]
 pub enum Kind {
     InTurn,
     OfNone,

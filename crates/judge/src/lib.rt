@@ -1,4 +1,6 @@
 // One record or one string of bytes, against the rules restated plainly.
+#![tactic(auto)]
+
 pub mod asks;
 
 use restated::tally::Tally;

@@ -1,4 +1,6 @@
 // Lists the drawer on standard input: document 01, "The listing".
+#![tactic(auto)]
+
 use libc::{STDIN_FILENO, STDOUT_FILENO};
 
 // Line by line through the buffer, until nothing is left or the output takes no more.

@@ -2,6 +2,8 @@
 // record of 32,768 entries, and drawers by chance. The drawers stand on standard input in a short form: a part is
 // its times and its length, two bytes each, low byte first, and its bytes; times of 0 ends a drawer. What is
 // written is compared with the file stdout. tests/list_cases.py makes both.
+#![tactic(auto)]
+
 mod show;
 mod space;
 

@@ -1,6 +1,8 @@
 // Document 01, "The listing": the text of a drawer, one line at a time. A line is written at the start of a lent
 // buffer that holds the longest of them; the caller passes it on and comes back for the next. All lines together
 // take a number of steps in proportion to the drawer's length.
+#![tactic(auto)]
+
 mod lines;
 mod shape;
 mod text;
@@ -12,7 +14,7 @@ ghost use Rattle.listing.specs.Left.{Starts, WritesLine};
 use answers::Answer;
 
 // What of a listing is still to be written.
-#[derive(Drop)]
+#[derive(Clone, Copy)]
 pub enum Rest {
     // The lines from a record on: its number, and its place in the drawer.
     Lines(u8, usize),
@@ -24,7 +26,7 @@ pub enum Rest {
 }
 
 // The length of the line that was written, and what is left.
-#[derive(Drop)]
+#[derive(Clone, Copy)]
 pub struct Step {
     pub length: usize,
     pub rest: Rest,

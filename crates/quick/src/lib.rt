@@ -1,6 +1,8 @@
 // Quick ask: from a record and its summary. It reads a handful of blocks, whatever the column and the ask:
 // of the first block, the last and one between only what can win. Nothing is asked of the bytes and the
 // numbers; where the summary is the record's own, the answer is the plain ask's.
+#![tactic(auto)]
+
 mod part;
 
 ghost use Rattle.std.specs.Prelude.{◌≡◌, ◌+◌, ◌*◌, ◌≤◌, ◌<◌, length, get_or};

@@ -9,7 +9,7 @@ use restated::tally::Tally;
 use restated::{compare, part, plain, random, tally};
 use shown::Line;
 
-#[derive(Drop)]
+#[derive(Clone, Copy)]
 enum Manner {
     Damaged,
     Random,
@@ -17,7 +17,7 @@ enum Manner {
     Changed,
 }
 
-#[derive(Drop)]
+#[derive(Clone, Copy)]
 struct Seen {
     // asks with an outcome that is allowed
     allowed: Tally,

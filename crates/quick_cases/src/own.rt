@@ -7,7 +7,7 @@ use restated::tally::Tally;
 use restated::{columns, compare, part, plain, random};
 use shown::Line;
 
-#[derive(Drop)]
+#[derive(Clone, Copy)]
 struct Run {
     fills: Tally,
     asks: Tally,

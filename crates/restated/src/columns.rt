@@ -1,7 +1,7 @@
 // Columns by rule.
 use crate::random;
 
-#[derive(Drop)]
+#[derive(Clone, Copy)]
 pub enum Kind {
     // entries below a number
     Random(u64),

@@ -48,7 +48,7 @@ pub fn numbers(numbers: &mut [u16], seed: u64, values: u64) {
 }
 
 // From entry i to entry j of n.
-#[derive(Drop)]
+#[derive(Clone, Copy)]
 pub struct Stretch {
     pub i: usize,
     pub j: usize,

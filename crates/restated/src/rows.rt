@@ -4,7 +4,7 @@ ghost use Rattle.std.specs.Prelude.{◌≤◌, length};
 
 use crate::tally;
 
-#[derive(Drop)]
+#[derive(Clone, Copy)]
 pub struct Row {
     pub values: [usize; 12],
     pub count: usize,

@@ -1,6 +1,6 @@
 // How many comparisons held, and how many did not.
 
-#[derive(Drop)]
+#[derive(Clone, Copy)]
 pub struct Tally {
     pub same: usize,
     pub differ: usize,

@@ -1,6 +1,8 @@
 // The byte table and the scan state of document 01, "The summary": whole bytes are read through a
 // table of 256 rows of three. Whatever seeks a smallest excess reads parentheses through Scan and never
 // sees the table's rows.
+#![tactic(auto)]
+
 pub mod mask;
 mod rows;
 
@@ -29,7 +31,7 @@ fn shifted(t: &RowTable, k: usize) -> usize
 }
 
 // What a scan has seen: the excess now, the smallest so far, and the leftmost place where that stands.
-#[derive(Drop)]
+#[derive(Clone, Copy)]
 pub struct Scan {
     pub excess: usize,
     pub smallest: usize,

@@ -1,9 +1,11 @@
 // A line of what a program shows. It grows to 256 bytes, and what comes behind them is dropped.
+#![tactic(auto)]
+
 use answers::Answer;
 use restated::tally;
 use restated::tally::Tally;
 
-#[derive(Drop)]
+#[derive(Clone, Copy)]
 pub struct Line {
     pub bytes: [u8; 256],
     pub end: usize,

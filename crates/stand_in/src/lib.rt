@@ -1,4 +1,6 @@
 // Stand-in: from any record that passes the check, a column of which it is the record.
+#![tactic(auto)]
+
 ghost use Rattle.std.specs.Prelude.{◌≡◌, ◌++◌, drop};
 ghost use Rattle.rules.specs.StandIn.{stand_in};
 ghost use Rattle.rules.specs.Bytes.{low_bits, parens};
@@ -25,7 +27,7 @@ pub fn stand_in(bytes: &[u8], column: &mut [u32]) -> Answer
 }
 
 // How far the walk along the parentheses is: the excess now, and the closings that it has passed.
-#[derive(Drop)]
+#[derive(Clone, Copy)]
 struct Walk {
     excess: u32,
     closed: usize,

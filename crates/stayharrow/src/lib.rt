@@ -1,6 +1,8 @@
 // The library for C and Rust: the entry points under plain names, each a proved one whose answer is put into
 // one number (specs/Coded.antt). include/stayharrow.h says the same to a C program. A slice is a pointer and
 // a length in elements. No function asks anything of its bytes and numbers.
+#![tactic(auto)]
+
 ghost use Rattle.std.specs.Prelude.{◌≡◌};
 ghost use Rattle.rules.specs.Order.{check_says, ask_says};
 ghost use Rattle.rules.specs.Drawer.{find_says, which_says};

@@ -1,4 +1,6 @@
 // Fill: the summary of a record, in one pass over its bytes and one over the tree.
+#![tactic(auto)]
+
 ghost use Rattle.std.specs.Prelude.{◌≡◌, min, ◌+◌, ◌*◌, ◌/◌, ◌≤◌, ◌<◌, length};
 ghost use Rattle.rules.specs.Bytes.{most, parens};
 ghost use Rattle.rules.specs.Summary.{slots, none, blocks_for};

@@ -2,6 +2,8 @@
 // the node between them that has the smallest number, and from a node down to its block. The numbers
 // may be any numbers: no search leaves the tree, and where every node is the smaller of its halves it
 // finds the leftmost block.
+#![tactic(auto)]
+
 ghost use Rattle.std.specs.Prelude.{◌≡◌, min, ◌+◌, ◌*◌, ◌≤◌, ◌<◌, length};
 ghost use Rattle.tree.specs.Tree.{at, Within, Descended, Between, Over};
 ghost use Rattle.tree.specs.Keys.{key_of, left_key, right_key, best_of};
@@ -35,7 +37,7 @@ pub fn descend(t: &[u16], v: usize, level: usize) -> usize
 }
 
 // A node with the smallest number among some that stand side by side, the leftmost of them.
-#[derive(Drop)]
+#[derive(Clone, Copy)]
 pub struct Best {
     pub low: usize,
     pub node: usize,

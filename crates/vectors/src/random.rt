@@ -6,7 +6,7 @@ use restated::tally::Tally;
 use restated::{columns, compare, part, plain};
 use shown::Line;
 
-#[derive(Drop)]
+#[derive(Clone, Copy)]
 struct Run {
     columns: Tally,
     asks: Tally,

@@ -1,5 +1,7 @@
 // A window: the record's bytes beside the first and last entry a pass may ask about. The functions over
 // the struct are thin; the work is done by functions on the slice and the numbers.
+#![tactic(auto)]
+
 ghost use Rattle.std.specs.Prelude.{◌≡◌};
 ghost use Rattle.rules.specs.Window.{window_says, bytes_by, number_by, window_ask_says, through_says};
 ghost use Rattle.answers.specs.Said.{said};

@@ -1,5 +1,7 @@
 // Document 01's paragraph on windows, run: windows that stand, each refusal of one, asks inside, at and outside
 // the edges, and asks in refused windows. What is written is compared with the file stdout.
+#![tactic(auto)]
+
 mod every;
 mod long;
 mod print;

@@ -1,4 +1,6 @@
 // Eight bytes as one number, and their closings counted at once.
+#![tactic(auto)]
+
 ghost use Rattle.std.specs.Prelude.{◌≡◌, ◌+◌, ◌≤◌, ◌<◌, length, take, drop};
 ghost use Rattle.rules.specs.Excess.{closings};
 ghost use Rattle.rules.specs.Bytes.{low_bits, all_bits};

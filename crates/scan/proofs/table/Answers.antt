@@ -2,12 +2,8 @@
 -- Assumes nothing.
 use mathlib.Core.Path.{refl}
 use Rattle.scan.specs.Rows.{rows}
-use Rattle.scan.proofs.table.Statement.{statement}
-use Rattle.scan.proofs.table.Tie as tie
+use Rattle.scan.proofs.table.Goals as goal
 
-returns : tie.Need-returns
+pub returns : goal.returns
 unfolding rows
 returns c = refl
-
-pub table_spec : {M : Type 1} → statement M
-table_spec = tie.close (tie.spec returns)

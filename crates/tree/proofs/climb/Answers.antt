@@ -8,12 +8,6 @@ use Rattle.tree.specs.Tree.{at, Between}
 use Rattle.tree.proofs.Climbing.{Inside, climb_starts, climb_inside, climb_on, climb_ends}
 use Rattle.tree.proofs.climb.Goals as goal
 
-inside : (c : tie.In-loop invariant-loop decreases-loop) → Inside c.before.loop.r c.before.loop.h
-inside c = climb_inside (omega arith) c.loop-test.true c.before.loop.invariant
-
-small : (c : tie.After-shared-slice-known invariant-loop decreases-loop) (v : ℕ) → at c.before.args.t.now v ≤ 65535
-small c v = omega (arith, c.shared-slice-known.given (256 + v))
-
 pub overflow_add-l : goal.overflow_add-l
 overflow_add-l c = omega arith
 
@@ -27,10 +21,10 @@ pub loop-l-init : goal.loop-l-init
 loop-l-init c = climb_starts c.args.t.now c.args.a c.args.b c.requires.1
 
 pub left_key-requires : goal.left_key-requires
-left_key-requires c = omega (arith, inside c)
+left_key-requires c = omega (arith, climb_inside (omega arith) c.loop-l-test.true c.loop-l.invariant)
 
 pub right_key-requires : goal.right_key-requires
-right_key-requires c = omega (arith, inside c)
+right_key-requires c = omega (arith, climb_inside (omega arith) c.loop-l-test.true c.loop-l.invariant)
 
 pub lower-requires : goal.lower-requires
 lower-requires c = tt
@@ -39,14 +33,14 @@ pub lower-best-requires : goal.lower-best-requires
 lower-best-requires c = tt
 
 pub overflow_add-h : goal.overflow_add-h
-overflow_add-h c = omega (arith, inside c)
+overflow_add-h c = omega (arith, climb_inside (omega arith) c.loop-l-test.true c.loop-l.invariant)
 
 pub loop-l-smaller : goal.loop-l-smaller
-loop-l-smaller c = omega (arith, inside c)
+loop-l-smaller c = omega (arith, climb_inside (omega arith) c.loop-l-test.true c.loop-l.invariant)
 
 pub loop-l-preserved : goal.loop-l-preserved
 loop-l-preserved c =
-    climb_on (omega arith) (small c) c.loop-l-test.true (cc) c.loop-l.invariant
+    climb_on (omega arith) (λ v. omega (arith, c.type_inv.t (256 + v))) c.loop-l-test.true (cc) c.loop-l.invariant
 
 pub passed-requires : goal.passed-requires
 passed-requires c = omega arith

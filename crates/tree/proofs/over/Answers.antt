@@ -8,14 +8,11 @@ use lib.Count.{leading_le}
 use Rattle.tree.proofs.Meeting.{Meets, meeting, meets, over_both}
 use Rattle.tree.proofs.over.Goals as goal
 
-met : (c : tie.After-shared-slice-known) → Meets c.before.args.a c.before.args.b (meeting c.before.args.a c.before.args.b)
-met c = meets c.before.args.a c.before.args.b c.before.requires.1 c.before.requires.2
-
 pub overflow_sub-level : goal.overflow_sub-level
 overflow_sub-level c = leading_le 64 (bit_xor (256 + c.args.a) (256 + c.args.b))
 
 pub overflow_shr-l : goal.overflow_shr-l
-overflow_shr-l c = omega (arith, (met c).level)
+overflow_shr-l c = omega (arith, (meets c.args.a c.args.b c.requires.1 c.requires.2).level)
 
 pub number-requires : goal.number-requires
 number-requires c =
@@ -23,4 +20,4 @@ number-requires c =
 
 pub returns : goal.returns
 returns c =
-    over_both c.args.a c.args.b c.requires.1 c.requires.2 (met c) c.number.ensures.0 c.number.ensures.1
+    over_both c.args.a c.args.b c.requires.1 c.requires.2 (meets c.args.a c.args.b c.requires.1 c.requires.2) c.number.ensures.0 c.number.ensures.1

@@ -1,0 +1,30 @@
+-- `ask::part::find` meets its contract: what is skipped is counted, and the closing is sought in what is left.
+-- Assumes nothing.
+use native.Mathlib.Omega.{arith}
+use borrow.Author.Rules.{rules}
+use Rattle.ask.proofs.Found.{skipped_few, left_part, left_ahead, left_found}
+use Rattle.ask.proofs.part.find.Goals as goal
+
+pub overflow_mul-start-2 : goal.overflow_mul-start-2
+overflow_mul-start-2 c =
+    omega (arith, c.requires.1, c.skip-skipped.ensures.within, skipped_few c.requires.1 c.requires.2 c.skip-skipped.ensures)
+
+pub overflow_sub-start : goal.overflow_sub-start
+overflow_sub-start c =
+    omega (arith, c.requires.1, c.skip-skipped.ensures.within, skipped_few c.requires.1 c.requires.2 c.skip-skipped.ensures)
+
+-- LEFT part-seek-start : tie.Need-slice-bounds-seek-start
+-- part-seek-start c = search rules
+
+-- LEFT part-seek-end : tie.Need-slice-bounds-seek-end
+-- part-seek-end c = search rules
+
+pub seek-stop-requires : goal.seek-stop-requires
+seek-stop-requires c =
+    let w = c.skip-skipped.ensures in
+    (c.requires.0, rw (left_part c.requires.1 c.requires.2 w) (left_ahead c.requires.1 c.requires.2 w))
+
+pub returns : goal.returns
+returns c =
+    let w = c.skip-skipped.ensures in
+    left_found c.requires.1 c.requires.2 w (rw (left_part c.requires.1 c.requires.2 w) at c.seek-stop.ensures)

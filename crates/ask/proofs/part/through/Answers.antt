@@ -1,0 +1,15 @@
+-- `ask::part::through` meets its contract: the whole bytes before the closing's, then the closing's up to and with it.
+-- Assumes nothing.
+use mathlib.Core.Path.{◌∙◌}
+use native.Mathlib.Omega.{arith}
+use Rattle.ask.proofs.Seek.{stop_ready, stop_through}
+use Rattle.ask.proofs.part.through.Goals as goal
+
+pub upto-requires : goal.upto-requires
+upto-requires c =
+    let stop = c.seek-stop.ensures in
+    (c.requires.0, stop_ready c.requires.1 stop, omega arith, omega arith, omega arith)
+
+pub returns : goal.returns
+returns c =
+    c.upto.ensures ∙ stop_through c.requires.1 c.seek-stop.ensures

@@ -1,0 +1,16 @@
+-- `drawer::part` meets its contract: from the start to the end it has the size.
+-- Assumes nothing.
+use mathlib.Core.Path.{◌≡◌}
+use Prim.Native.Nat.{◌+◌, ◌-◌}
+use native.Mathlib.Omega.{arith}
+use borrow.Author.Rules.{rules}
+use Rattle.drawer.proofs.part.Goals as goal
+
+-- LEFT part-result-start : tie.Need-slice-bounds-result-start
+-- part-result-start c = search rules
+
+-- LEFT part-result-end : tie.Need-slice-bounds-result-end
+-- part-result-end c = search rules
+
+pub returns : goal.returns
+returns c = let size : c.args.at + c.args.size - c.args.at ≡ c.args.size = omega arith in rw size

@@ -10,11 +10,8 @@ use Rattle.ask.proofs.between.Goals as goal
 pub slice_bounds-lowest-count : goal.slice_bounds-lowest-count
 slice_bounds-lowest-count c = long c.requires.1
 
--- LEFT part-lowest-start : tie.Need-slice-bounds-lowest-start
--- part-lowest-start c = long c.before.requires.1
-
--- LEFT part-lowest-end : tie.Need-slice-bounds-lowest-end
--- part-lowest-end c = search rules
+pub slice_bounds-lowest-start : goal.slice_bounds-lowest-start
+slice_bounds-lowest-start c = long c.requires.1
 
 pub lowest-end-requires : goal.lowest-end-requires
 lowest-end-requires c =

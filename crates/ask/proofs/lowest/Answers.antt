@@ -44,64 +44,56 @@ closings-requires c =
 pub overflow_sub-j : goal.overflow_sub-j
 overflow_sub-j c =
     let before : c.closings.result ≡ passed (c.args.body.now) (c.find-first.result.byte) = c.closings.ensures ∙ before_is c.requires.1 c.find-first.ensures in
-    rw (before) (before_low c.requires.1 c.find-first.ensures)
+    rw before (before_low c.requires.1 c.find-first.ensures)
 
 pub nth-y-requires : goal.nth-y-requires
 nth-y-requires c =
     let upto : c.closings-passed.result ≡ passed (c.args.body.now) (c.find-first.result.byte + 1) = c.closings-passed.ensures ∙ next_is c.requires.1 c.find-first.ensures c.behind-here.result c.behind-here.ensures in
     let before : c.closings.result ≡ passed (c.args.body.now) (c.find-first.result.byte) = c.closings.ensures ∙ before_is c.requires.1 c.find-first.ensures in
-    let same : c.args.j < passed (c.args.body.now) (c.find-first.result.byte + 1) = rw (upto) at c.if-j-passed.true in
-    rw (before) (same-among c.requires.1 c.find-first.ensures (same))
+    let same : c.args.j < passed (c.args.body.now) (c.find-first.result.byte + 1) = rw upto at c.if-j-passed.true in
+    rw before (same-among c.requires.1 c.find-first.ensures same)
 
 pub overflow_add-y : goal.overflow_add-y
 overflow_add-y c =
     let upto : c.closings-passed.result ≡ passed (c.args.body.now) (c.find-first.result.byte + 1) = c.closings-passed.ensures ∙ next_is c.requires.1 c.find-first.ensures c.behind-here.result c.behind-here.ensures in
     let before : c.closings.result ≡ passed (c.args.body.now) (c.find-first.result.byte) = c.closings.ensures ∙ before_is c.requires.1 c.find-first.ensures in
-    let same : c.args.j < passed (c.args.body.now) (c.find-first.result.byte + 1) = rw (upto) at c.if-j-passed.true in
-    let at-bit : c.nth-y.result ≡ closing_place (low_bits 8 (get_or (c.args.body.now) (c.find-first.result.byte) 0)) (c.args.j - passed (c.args.body.now) (c.find-first.result.byte)) = rw (before) at c.nth-y.ensures in
-    omega (arith, same_low c.requires.1 c.find-first.ensures (same) (at-bit))
+    let same : c.args.j < passed (c.args.body.now) (c.find-first.result.byte + 1) = rw upto at c.if-j-passed.true in
+    let at-bit : c.nth-y.result ≡ closing_place (low_bits 8 (get_or (c.args.body.now) (c.find-first.result.byte) 0)) (c.args.j - passed (c.args.body.now) (c.find-first.result.byte)) = rw before at c.nth-y.ensures in
+    omega (arith, same_low c.requires.1 c.find-first.ensures same at-bit)
 
 pub within-requires : goal.within-requires
 within-requires c =
     let upto : c.closings-passed.result ≡ passed (c.args.body.now) (c.find-first.result.byte + 1) = c.closings-passed.ensures ∙ next_is c.requires.1 c.find-first.ensures c.behind-here.result c.behind-here.ensures in
-    let upto : in.before.closings.result ≡ passed (in.before.before.before.before.before.before.args.body.now) (in.before.before.before.before.find.result.byte + 1) = in.before.closings.ensures ∙ next_is in.before.before.before.before.before.before.requires.1 in.before.before.before.before.find.ensures in.before.before.behind.result in.before.before.behind.ensures in
     let before : c.closings.result ≡ passed (c.args.body.now) (c.find-first.result.byte) = c.closings.ensures ∙ before_is c.requires.1 c.find-first.ensures in
-    let same : c.args.j < passed (c.args.body.now) (c.find-first.result.byte + 1) = rw (upto) at c.if-j-passed.true in
-    let same : in.before.before.before.before.before.before.args.j < passed (in.before.before.before.before.before.before.args.body.now) (in.before.before.before.before.find.result.byte + 1) = rw (upto) at in.if1.true in
-    let at-bit : c.nth-y.result ≡ closing_place (low_bits 8 (get_or (c.args.body.now) (c.find-first.result.byte) 0)) (c.args.j - passed (c.args.body.now) (c.find-first.result.byte)) = rw (before) at c.nth-y.ensures in
+    let same : c.args.j < passed (c.args.body.now) (c.find-first.result.byte + 1) = rw upto at c.if-j-passed.true in
+    let at-bit : c.nth-y.result ≡ closing_place (low_bits 8 (get_or (c.args.body.now) (c.find-first.result.byte) 0)) (c.args.j - passed (c.args.body.now) (c.find-first.result.byte)) = rw before at c.nth-y.ensures in
     let q = c.requires.1 in
     let w = c.find-first.ensures in
-    let h = same
-    (c.requires.0, begins q w, omega (arith, same-order q w h (at-bit)), omega (arith, same_low q w h (at-bit)))
+    let h = same in
+    (c.requires.0, begins q w, omega (arith, same-order q w h at-bit), omega (arith, same_low q w h at-bit))
 
 pub returns-then-j-passed : goal.returns-then-j-passed
 returns-then-j-passed c =
     let upto : c.closings-passed.result ≡ passed (c.args.body.now) (c.find-first.result.byte + 1) = c.closings-passed.ensures ∙ next_is c.requires.1 c.find-first.ensures c.behind-here.result c.behind-here.ensures in
     let before : c.closings.result ≡ passed (c.args.body.now) (c.find-first.result.byte) = c.closings.ensures ∙ before_is c.requires.1 c.find-first.ensures in
-    let same : c.args.j < passed (c.args.body.now) (c.find-first.result.byte + 1) = rw (upto) at c.if-j-passed.true in
-    let at-bit : c.nth-y.result ≡ closing_place (low_bits 8 (get_or (c.args.body.now) (c.find-first.result.byte) 0)) (c.args.j - passed (c.args.body.now) (c.find-first.result.byte)) = rw (before) at c.nth-y.ensures in
-    c.within.ensures ∙ same_seen c.requires.1 c.find-first.ensures (same) (at-bit)
-
--- LEFT part-through-start : tie.Need-slice-bounds-through-start
--- part-through-start c = search rules
-
--- LEFT part-through-end : tie.Need-slice-bounds-through-end
--- part-through-end c = search rules
+    let same : c.args.j < passed (c.args.body.now) (c.find-first.result.byte + 1) = rw upto at c.if-j-passed.true in
+    let at-bit : c.nth-y.result ≡ closing_place (low_bits 8 (get_or (c.args.body.now) (c.find-first.result.byte) 0)) (c.args.j - passed (c.args.body.now) (c.find-first.result.byte)) = rw before at c.nth-y.ensures in
+    c.within.ensures ∙ same_seen c.requires.1 c.find-first.ensures same at-bit
 
 pub through-requires : goal.through-requires
 through-requires c =
     let upto : c.closings-passed.result ≡ passed (c.args.body.now) (c.find-first.result.byte + 1) = c.closings-passed.ensures ∙ next_is c.requires.1 c.find-first.ensures c.behind-here.result c.behind-here.ensures in
-    let apart : passed (c.args.body.now) (c.find-first.result.byte + 1) ≤ c.args.j = rw (upto) at c.if-j-passed.false in
+    let apart : passed (c.args.body.now) (c.find-first.result.byte + 1) ≤ c.args.j = rw upto at c.if-j-passed.false in
     let q = c.requires.1 in
     let w = c.find-first.ensures in
     let here = c.behind-here in
-    (c.requires.0, rw (upto, next_part q w) (apart-ahead q w here.result here.ensures (apart)))
+    (c.requires.0, rw (upto, next_part q w) (apart-ahead q w here.result here.ensures apart))
 
 pub returns : goal.returns
 returns c =
     let upto : c.closings-passed.result ≡ passed (c.args.body.now) (c.find-first.result.byte + 1) = c.closings-passed.ensures ∙ next_is c.requires.1 c.find-first.ensures c.behind-here.result c.behind-here.ensures in
-    let apart : passed (c.args.body.now) (c.find-first.result.byte + 1) ≤ c.args.j = rw (upto) at c.if-j-passed.false in
+    let apart : passed (c.args.body.now) (c.find-first.result.byte + 1) ≤ c.args.j = rw upto at c.if-j-passed.false in
     let q = c.requires.1 in
     let w = c.find-first.ensures in
     let here = c.behind-here in
-    (rw (upto, next_part q w) at c.through.ensures) ∙ apart-seen q w here.result here.ensures (apart)
+    (rw (upto, next_part q w) at c.through.ensures) ∙ apart-seen q w here.result here.ensures apart

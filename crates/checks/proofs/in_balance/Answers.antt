@@ -6,12 +6,6 @@ use Rattle.checks.proofs.Through.{ready_last, through}
 use borrow.Author.Rules.{rules}
 use Rattle.checks.proofs.in_balance.Goals as goal
 
--- LEFT part-bytes-start : tie.Need-slice-bounds-bytes-start
--- part-bytes-start c = search rules
-
--- LEFT part-bytes-end : tie.Need-slice-bounds-bytes-end
--- part-bytes-end c = search rules
-
 pub byte-end-requires : goal.byte-end-requires
 byte-end-requires c =
     (c.requires.0, ready_last c.args.bytes.now c.args.n c.requires.1 c.requires.2 c.bytes-front.result c.bytes-front.ensures, omega arith)

@@ -27,29 +27,23 @@ returns-then-r-ge64 c =
 pub loop-at-init : goal.loop-at-init
 loop-at-init c = (omega arith, sym (find-seek _ _ c.if-drawer-gt65536.false c.if-r-ge64.false))
 
--- LEFT part-frame-start : tie.Need-slice-bounds-frame-start invariant-loop decreases-loop
--- part-frame-start c = search rules
-
--- LEFT part-frame-end : tie.Need-slice-bounds-frame-end invariant-loop decreases-loop
--- part-frame-end c = search rules
-
 pub overflow_add-size : goal.overflow_add-size
 overflow_add-size c =
     let framed : frame_says (drop c.loop-at.at (c.args.drawer.now)) ≡ answer c.in-Is.n = frame-rest (c.args.drawer.now) c.loop-at.at (ap said c.in-Is.is) c.frame.ensures in
-    let within : c.loop-at.at + record_length c.in-Is.n ≤ length (c.args.drawer.now) = frame-within _ _ _ (framed) in
+    let within : c.loop-at.at + record_length c.in-Is.n ≤ length (c.args.drawer.now) = frame-within _ _ _ framed in
     omega (arith, within)
 
 pub overflow_add-size-in-Is : goal.overflow_add-size-in-Is
 overflow_add-size-in-Is c =
     let framed : frame_says (drop c.loop-at.at (c.args.drawer.now)) ≡ answer c.in-Is.n = frame-rest (c.args.drawer.now) c.loop-at.at (ap said c.in-Is.is) c.frame.ensures in
-    let within : c.loop-at.at + record_length c.in-Is.n ≤ length (c.args.drawer.now) = frame-within _ _ _ (framed) in
+    let within : c.loop-at.at + record_length c.in-Is.n ≤ length (c.args.drawer.now) = frame-within _ _ _ framed in
     omega (arith, within)
 
 pub returns-then-left-eq0 : goal.returns-then-left-eq0
 returns-then-left-eq0 c =
     let framed : frame_says (drop c.loop-at.at (c.args.drawer.now)) ≡ answer c.in-Is.n = frame-rest (c.args.drawer.now) c.loop-at.at (ap said c.in-Is.is) c.frame.ensures in
-    let sought : {left : ℕ} → c.loop-at.left ≡ left → seek (c.args.drawer.now) left c.loop-at.at ≡ find_says (c.args.drawer.now) c.args.r = λ e. ap (λ k. seek (c.args.drawer.now) k c.loop-at.at) (sym e) ∙ c.loop-at.invariant.1 in
-    sym (seek_here _ _ _ (framed)) ∙ sought c.if-left-eq0.true
+    let sought : (left : ℕ) → c.loop-at.left ≡ left → seek (c.args.drawer.now) left c.loop-at.at ≡ find_says (c.args.drawer.now) c.args.r = λ left e. ap (λ k. seek (c.args.drawer.now) k c.loop-at.at) (sym e) ∙ c.loop-at.invariant.1 in
+    sym (seek_here _ _ _ framed) ∙ sought _ c.if-left-eq0.true
 
 pub overflow_sub-left : goal.overflow_sub-left
 overflow_sub-left c = omega arith
@@ -57,23 +51,22 @@ overflow_sub-left c = omega arith
 pub overflow_add-at : goal.overflow_add-at
 overflow_add-at c =
     let framed : frame_says (drop c.loop-at.at (c.args.drawer.now)) ≡ answer c.in-Is.n = frame-rest (c.args.drawer.now) c.loop-at.at (ap said c.in-Is.is) c.frame.ensures in
-    let within : c.loop-at.at + record_length c.in-Is.n ≤ length (c.args.drawer.now) = frame-within _ _ _ (framed) in
+    let within : c.loop-at.at + record_length c.in-Is.n ≤ length (c.args.drawer.now) = frame-within _ _ _ framed in
     omega (arith, within)
 
 pub loop-at-smaller : goal.loop-at-smaller
 loop-at-smaller c =
     let framed : frame_says (drop c.loop-at.at (c.args.drawer.now)) ≡ answer c.in-Is.n = frame-rest (c.args.drawer.now) c.loop-at.at (ap said c.in-Is.is) c.frame.ensures in
-    let within : c.loop-at.at + record_length c.in-Is.n ≤ length (c.args.drawer.now) = frame-within _ _ _ (framed) in
+    let within : c.loop-at.at + record_length c.in-Is.n ≤ length (c.args.drawer.now) = frame-within _ _ _ framed in
     omega (arith, within)
 
 pub loop-at-preserved : goal.loop-at-preserved
 loop-at-preserved c =
     let framed : frame_says (drop c.loop-at.at (c.args.drawer.now)) ≡ answer c.in-Is.n = frame-rest (c.args.drawer.now) c.loop-at.at (ap said c.in-Is.is) c.frame.ensures in
-    let within : c.loop-at.at + record_length c.in-Is.n ≤ length (c.args.drawer.now) = frame-within _ _ _ (framed) in
-    let sought : {left : ℕ} → c.loop-at.left ≡ left → seek (c.args.drawer.now) left c.loop-at.at ≡ find_says (c.args.drawer.now) c.args.r = λ e. ap (λ k. seek (c.args.drawer.now) k c.loop-at.at) (sym e) ∙ c.loop-at.invariant.1 in
-    let sought : {left : ℕ} → one.loop.left ≡ left → seek (one.before.before.before.before.args.drawer.now) left one.loop.at ≡ find_says (one.before.before.before.before.args.drawer.now) one.before.before.before.before.args.r = λ e. ap (λ k. seek (one.before.before.before.before.args.drawer.now) k one.loop.at) (sym e) ∙ one.loop.invariant.1 in
+    let within : c.loop-at.at + record_length c.in-Is.n ≤ length (c.args.drawer.now) = frame-within _ _ _ framed in
+    let sought : (left : ℕ) → c.loop-at.left ≡ left → seek (c.args.drawer.now) left c.loop-at.at ≡ find_says (c.args.drawer.now) c.args.r = λ left e. ap (λ k. seek (c.args.drawer.now) k c.loop-at.at) (sym e) ∙ c.loop-at.invariant.1 in
     let one : c.loop-at.left ≡ suc (c.loop-at.left - 1) = omega arith in
-    (within, sym (seek-on _ _ _ (framed) _) ∙ sought)
+    (within, sym (seek-on _ _ _ framed _) ∙ sought _ one)
 
 pub returns-in-Refused : goal.returns-in-Refused
 returns-in-Refused c =

@@ -11,19 +11,13 @@ use Rattle.drawer.proofs.hand_out.Goals as goal
 pub part-requires : goal.part-requires
 part-requires c =
     let answered : find_says c.args.drawer.now c.args.r ≡ found c.in-At.at c.in-At.size = sym c.find.ensures ∙ ap said_found c.in-At.is in
-    omega (arith, found_within _ _ _ _ (answered))
-
--- LEFT part-result-start : tie.Need-slice-bounds-result-start
--- part-result-start c = search rules
-
--- LEFT part-result-end : tie.Need-slice-bounds-result-end
--- part-result-end c = search rules
+    omega (arith, found_within _ _ _ _ answered)
 
 pub returns-in-At : goal.returns-in-At
 unfolding hand_out
 returns-in-At c =
     let answered : find_says c.args.drawer.now c.args.r ≡ found c.in-At.at c.in-At.size = sym c.find.ensures ∙ ap said_found c.in-At.is in
-    rw (answered) c.part.ensures
+    rw answered c.part.ensures
 
 pub returns-in-Refused : goal.returns-in-Refused
 unfolding hand_out

@@ -11,34 +11,22 @@ use Rattle.drawer.proofs.look.Goals as goal
 pub part-requires : goal.part-requires
 part-requires c =
     let in-own : look_says c.args.own.now c.args.shared.now c.args.r ≡ part own c.in-Own.at c.in-Own.size = sym c.choose.ensures ∙ ap said_choice c.in-Own.is in
-    omega (arith, found_within _ _ _ _ (rw (in-own) at (look-found c.args.own.now c.args.shared.now c.args.r)))
+    omega (arith, found_within _ _ _ _ (rw in-own at (look-found c.args.own.now c.args.shared.now c.args.r)))
 
 pub part-requires-in-Shared : goal.part-requires-in-Shared
 part-requires-in-Shared c =
     let in-shared : look_says c.args.own.now c.args.shared.now c.args.r ≡ part shared c.in-Shared.at c.in-Shared.size = sym c.choose.ensures ∙ ap said_choice c.in-Shared.is in
-    omega (arith, found_within _ _ _ _ (rw (in-shared) at (look-found c.args.own.now c.args.shared.now c.args.r)))
-
--- LEFT part-result-start : tie.Need-slice-bounds-result-start
--- part-result-start c = search rules
-
--- LEFT part-result-end : tie.Need-slice-bounds-result-end
--- part-result-end c = search rules
-
--- LEFT part-result-start-2 : tie.Need-slice-bounds-result-start-2
--- part-result-start-2 c = search rules
-
--- LEFT part-result-end-2 : tie.Need-slice-bounds-result-end-2
--- part-result-end-2 c = search rules
+    omega (arith, found_within _ _ _ _ (rw in-shared at (look-found c.args.own.now c.args.shared.now c.args.r)))
 
 pub returns-in-Own : goal.returns-in-Own
 returns-in-Own c =
     let in-own : look_says c.args.own.now c.args.shared.now c.args.r ≡ part own c.in-Own.at c.in-Own.size = sym c.choose.ensures ∙ ap said_choice c.in-Own.is in
-    rw (in-own) c.part.ensures
+    rw in-own c.part.ensures
 
 pub returns-in-Shared : goal.returns-in-Shared
 returns-in-Shared c =
     let in-shared : look_says c.args.own.now c.args.shared.now c.args.r ≡ part shared c.in-Shared.at c.in-Shared.size = sym c.choose.ensures ∙ ap said_choice c.in-Shared.is in
-    rw (in-shared) c.part-in-Shared.ensures
+    rw in-shared c.part-in-Shared.ensures
 
 pub returns-in-OwnRefused : goal.returns-in-OwnRefused
 returns-in-OwnRefused c = rw (sym c.choose.ensures ∙ ap said_choice c.in-OwnRefused.is)

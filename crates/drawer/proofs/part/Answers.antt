@@ -6,11 +6,5 @@ use native.Mathlib.Omega.{arith}
 use borrow.Author.Rules.{rules}
 use Rattle.drawer.proofs.part.Goals as goal
 
--- LEFT part-result-start : tie.Need-slice-bounds-result-start
--- part-result-start c = search rules
-
--- LEFT part-result-end : tie.Need-slice-bounds-result-end
--- part-result-end c = search rules
-
 pub returns : goal.returns
 returns c = let size : c.args.at + c.args.size - c.args.at ≡ c.args.size = omega arith in rw size

@@ -28,12 +28,6 @@ fresh-requires c = tt
 pub slice_bounds-bytes-count : goal.slice_bounds-bytes-count
 slice_bounds-bytes-count c = omega arith
 
--- LEFT part-bytes-start : tie.Need-slice-bounds-bytes-start invariant-loop decreases-loop
--- part-bytes-start c = omega arith
-
--- LEFT part-bytes-end : tie.Need-slice-bounds-bytes-end invariant-loop decreases-loop
--- part-bytes-end c = omega arith
-
 pub bytes-st-requires : goal.bytes-st-requires
 bytes-st-requires c =
     (c.requires.0, fresh_ready c.fresh.ensures (omega arith) (omega arith), omega arith)
@@ -74,8 +68,7 @@ overflow_sub-st-in-loop-k c =
 pub note-requires : goal.note-requires
 note-requires c =
     let step : Read (parens c.args.n c.args.bytes.now) c.args.n c.loop-k.k c.bytes-st.result = read_whole c.requires.1 c.loop-k-test.true c.loop-k.invariant.1 c.fresh.ensures c.bytes-st.ensures in
-    let step : Read (parens in.before.before.before.before.before.before.before.args.n in.before.before.before.before.before.before.before.args.bytes.now) in.before.before.before.before.before.before.before.args.n in.before.before.before.before.loop.k in.bytes.result = read_whole in.before.before.before.before.before.before.before.requires.1 in.before.before.before.loop-test.true in.before.before.before.before.loop.invariant.1 in.before.before.fresh.ensures in.bytes.ensures in
-    let s = step
+    let s = step in
     (omega arith, omega arith, omega arith, omega arith, omega arith, omega arith)
 
 pub overflow_add-k : goal.overflow_add-k
@@ -87,13 +80,11 @@ loop-k-smaller c = omega arith
 pub loop-k-preserved : goal.loop-k-preserved
 loop-k-preserved c =
     let step : Read (parens c.args.n c.args.bytes.now) c.args.n c.loop-k.k c.bytes-st.result = read_whole c.requires.1 c.loop-k-test.true c.loop-k.invariant.1 c.fresh.ensures c.bytes-st.ensures in
-    let step : Read (parens in.before.before.before.before.before.before.before.args.n in.before.before.before.before.before.before.before.args.bytes.now) in.before.before.before.before.before.before.before.args.n in.before.before.before.before.loop.k in.bytes.result = read_whole in.before.before.before.before.before.before.before.requires.1 in.before.before.before.loop-test.true in.before.before.before.before.loop.invariant.1 in.before.before.fresh.ensures in.bytes.ensures in
-    let step : Read (parens let.before.before.before.before.before.before.before.args.n let.before.before.before.before.before.before.before.args.bytes.now) let.before.before.before.before.before.before.before.args.n let.before.before.before.before.loop.k let.bytes.result = read_whole let.before.before.before.before.before.before.before.requires.1 let.before.before.before.loop-test.true let.before.before.before.before.loop.invariant.1 let.before.before.fresh.ensures let.bytes.ensures in
-    let step : Read (parens from.before.before.before.before.before.before.before.args.n from.before.before.before.before.before.before.before.args.bytes.now) from.before.before.before.before.before.before.before.args.n from.before.before.before.before.loop.k from.bytes.result = read_whole from.before.before.before.before.before.before.before.requires.1 from.before.before.before.loop-test.true from.before.before.before.before.loop.invariant.1 from.before.before.fresh.ensures from.bytes.ensures in
     let st = c.bytes-st.result in
     let loop = c.loop-k in
     let s = parens c.args.n c.args.bytes.now in
-    let block = step : (256 * loop.k + 65536 - loop.excess) / 2 ≡ closed s loop.k = omega arith in
+    let block = step in
+    let from : (256 * loop.k + 65536 - loop.excess) / 2 ≡ closed s loop.k = omega arith in
     let upto : (256 * loop.k + 256 + 65536 - st.excess) / 2 ≡ closed s (loop.k + 1) = omega arith in
     let end : st.excess - 65536 ≡ block_end s loop.k = omega arith in
     let low : st.smallest - 65536 ≡ leaf s loop.k = omega arith in

@@ -11,9 +11,9 @@ use Rattle.ask.proofs.byte.upto.Goals as goal
 pub without-requires : goal.without-requires
 without-requires c =
     let undone : let a = c.args in Undone (8 - a.k) c.byte.result (scan_of a.st a.at (take a.k (low_bits 8 a.b))) = let a = c.args in let o = c.opened in opened_behind a.b a.k o.result c.requires.4 o.ensures a.st a.at c.byte.result c.requires.3 c.byte.ensures in
-    (undone).ranges
+    undone.fits
 
 pub returns : goal.returns
 returns c =
     let undone : let a = c.args in Undone (8 - a.k) c.byte.result (scan_of a.st a.at (take a.k (low_bits 8 a.b))) = let a = c.args in let o = c.opened in opened_behind a.b a.k o.result c.requires.4 o.ensures a.st a.at c.byte.result c.requires.3 c.byte.ensures in
-    c.without.ensures ∙ (undone).same
+    c.without.ensures ∙ undone.same

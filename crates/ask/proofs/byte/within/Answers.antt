@@ -16,9 +16,9 @@ behind-requires c =
 pub without-requires : goal.without-requires
 without-requires c =
     let undone : let a = c.args in Undone (8 - a.k) c.behind.result (scan_of (begun a.e (a.at + a.x)) (a.at + a.x + 1) (drop (a.x + 1) (take a.k (low_bits 8 a.b)))) = let a = c.args in let o = c.opened in opened-within a.b a.k o.result c.requires.3 o.ensures a.at a.x a.e c.behind.result c.requires.2 c.behind.ensures in
-    (undone).ranges
+    undone.fits
 
 pub returns : goal.returns
 returns c =
     let undone : let a = c.args in Undone (8 - a.k) c.behind.result (scan_of (begun a.e (a.at + a.x)) (a.at + a.x + 1) (drop (a.x + 1) (take a.k (low_bits 8 a.b)))) = let a = c.args in let o = c.opened in opened-within a.b a.k o.result c.requires.3 o.ensures a.at a.x a.e c.behind.result c.requires.2 c.behind.ensures in
-    c.without.ensures ∙ (undone).same
+    c.without.ensures ∙ undone.same

@@ -13,12 +13,6 @@ pub overflow_sub-start : goal.overflow_sub-start
 overflow_sub-start c =
     omega (arith, c.requires.1, c.skip-skipped.ensures.within, skipped_few c.requires.1 c.requires.2 c.skip-skipped.ensures)
 
--- LEFT part-seek-start : tie.Need-slice-bounds-seek-start
--- part-seek-start c = search rules
-
--- LEFT part-seek-end : tie.Need-slice-bounds-seek-end
--- part-seek-end c = search rules
-
 pub seek-stop-requires : goal.seek-stop-requires
 seek-stop-requires c =
     let w = c.skip-skipped.ensures in

@@ -42,12 +42,6 @@ loop-k-preserved c =
 pub slice_bounds-each-count : goal.slice_bounds-each-count
 slice_bounds-each-count c = omega arith
 
--- LEFT part-each-start : tie.Need-slice-bounds-each-start invariant-loop decreases-loop
--- part-each-start c = omega arith
-
--- LEFT part-each-end : tie.Need-slice-bounds-each-end invariant-loop decreases-loop
--- part-each-end c = omega arith
-
 pub overflow_mul-k-2 : goal.overflow_mul-k-2
 overflow_mul-k-2 c = omega arith
 

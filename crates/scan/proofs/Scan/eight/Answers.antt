@@ -19,12 +19,6 @@ pub returns-then-self : goal.returns-then-self
 returns-then-self c =
     scan-counted c.args.k c.args.part.now c.requires.2 c.args.self c.args.at c.closings-closings.result c.closings-closings.ensures (omega arith)
 
--- LEFT part-each-start : tie.Need-slice-bounds-each-start
--- part-each-start c = search rules
-
--- LEFT part-each-end : tie.Need-slice-bounds-each-end
--- part-each-end c = search rules
-
 pub returns : goal.returns
 returns c =
     let k = c.args.k in

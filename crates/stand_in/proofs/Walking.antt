@@ -122,7 +122,7 @@ pub some_gone : {w₀ w : Walk} {s₀ : List Paren} {col₀ col : List ℕ} (s t
     → Going w₀ s₀ col₀ (walked w s) t (written w s col)
 unfolding walked written
 some_gone [] t g = g
-some_gone (p ∷ s) t g = some_gone s t (one_gone g)
+some_gone {w₀ = w₀} {w = w} {s₀ = s₀} {col₀ = col₀} {col = col} (p ∷ s) t g = some_gone {w = after w p} s t (one_gone g)
 
 -- ---- the column at the end
 

@@ -46,7 +46,7 @@ bits-requires c =
     last-ready c.requires c.loop-i.invariant c.loop-i-test.false (omega arith)
 
 pub shape_of-column-then-n-gt0 : goal.shape_of-column-then-n-gt0
-shape_of-column-then-n-gt0 c = c.bits.auto.1.0 ∙ c.loop-i.invariant.going.same
+shape_of-column-then-n-gt0 c = c.bits.auto.column ∙ c.loop-i.invariant.going.same
 
 pub returns-then-n-gt0 : goal.returns-then-n-gt0
 returns-then-n-gt0 c =

@@ -137,7 +137,7 @@ one a b e f = said_once a b (e ∙ sym f)
 pub once : Once
 once =
     record {
-      refusal-of = λ r f l. one;
+      refusal_of = λ r f l. one;
       make = λ r f l w x m y. (m.bytes ∙ sym y.bytes, m.first ∙ sym y.first, m.last ∙ sym y.last);
       ask_in = λ w i j. one;
       ask_through = λ r f l i j. one;

@@ -31,7 +31,7 @@ pub record Windows : Type 0 where
 
 -- Document 01, "How tight each statement is": two results allowed for one input are equal. Of two windows that is said of what they keep.
 pub record Once : Type 0 where
-  pub refusal-of : (r : List ℕ) (f l : ℕ) (a b : Answer) → said a ≡ window_says r f l → said b ≡ window_says r f l → a ≡ b
+  pub refusal_of : (r : List ℕ) (f l : ℕ) (a b : Answer) → said a ≡ window_says r f l → said b ≡ window_says r f l → a ≡ b
   pub make : (r : List ℕ) (f l : ℕ) (w x : Window) → Made r f l w → Made r f l x
       → (w.bytes.now ≡ x.bytes.now) × (w.first ≡ x.first) × (w.last ≡ x.last)
   pub ask_in : (w : Window) (i j : ℕ) (a b : Answer) → said a ≡ in_window w i j → said b ≡ in_window w i j → a ≡ b

@@ -1,0 +1,6 @@
+-- `stayharrow::codes::acceptance` meets its contract: a refusal is passed on.
+-- Assumes nothing.
+use Rattle.stayharrow.proofs.codes.acceptance.Goals as goal
+
+pub returns-in-Refused : goal.returns-in-Refused
+returns-in-Refused c = rw c.in-Refused.is c.refusal.ensures

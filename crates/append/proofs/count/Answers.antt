@@ -1,7 +1,7 @@
 -- `append::count` meets its contract. The loop's invariant: the count from this place on, begun at k, is the count of all; k is at
 -- most the place. The measure is what is left of the bytes. Assumes nothing.
 use mathlib.Core.Path.{◌≡◌, refl, sym, ap, ◌∙◌}
-use Prim.Native.Nat.{◌+◌, ◌-◌, ◌≤◌}
+use Prim.Native.Nat.{◌+◌, ◌≤◌}
 use native.Mathlib.Omega.{arith}
 use lib.ListN.{length, drop}
 use Rattle.rules.specs.Refusal.{answer}

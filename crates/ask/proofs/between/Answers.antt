@@ -4,7 +4,6 @@ use native.Mathlib.Omega.{arith}
 use Rattle.rules.specs.Excess.{entry_between}
 use Rattle.rules.specs.Bytes.{entries, parens}
 use Rattle.ask.proofs.Answered.{Names, long, body, asked, names}
-use borrow.Author.Rules.{rules}
 use Rattle.ask.proofs.between.Goals as goal
 
 pub slice_bounds-lowest-count : goal.slice_bounds-lowest-count

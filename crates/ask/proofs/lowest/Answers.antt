@@ -9,7 +9,6 @@ use Rattle.rules.specs.Bytes.{low_bits}
 use Rattle.ask.proofs.Seek.{passed}
 use Rattle.ask.proofs.FromClosing.{number_low, byte_low, begins, before_fits, before_is, before_low, next_fits, next_is}
 use Rattle.ask.proofs.FromClosing.{same-among, same_low, same-order, same_seen, next_part, apart-ahead, apart-seen}
-use borrow.Author.Rules.{rules}
 use Rattle.ask.proofs.lowest.Goals as goal
 
 pub overflow_mul-e-2 : goal.overflow_mul-e-2

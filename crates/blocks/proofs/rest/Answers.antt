@@ -1,7 +1,6 @@
 -- `blocks::rest` meets its contract. The loop's invariant: the place is still sought from byte m on.
 -- Assumes nothing.
 use mathlib.Core.Path.{refl, sym, ◌∙◌}
-use Prim.Native.Nat.{◌-◌}
 use native.Mathlib.Omega.{arith}
 use lib.ListN.{get_or}
 use Rattle.rules.specs.Bytes.{low_bits}

@@ -1,6 +1,5 @@
 -- `blocks::search` meets its contract. The loop's invariant: the block is between the two ends.
 -- Assumes nothing.
-use Prim.Native.Nat.{◌-◌}
 use native.Mathlib.Omega.{arith}
 use Rattle.blocks.proofs.Searching.{begins, goes_up, goes_down, ends}
 use Rattle.blocks.proofs.search.Goals as goal

@@ -1,7 +1,6 @@
 -- `blocks::select` meets its contract. The loop's invariant: the place is still sought from byte at on.
 -- Assumes nothing.
 use mathlib.Core.Path.{refl, sym, ◌∙◌}
-use Prim.Native.Nat.{◌-◌}
 use native.Mathlib.Omega.{arith}
 use Rattle.rules.specs.Bytes.{low_bits}
 use Rattle.blocks.proofs.Sums.{sums-total}

@@ -3,7 +3,6 @@
 use mathlib.Core.Path.{sym}
 use native.Mathlib.Omega.{arith}
 use Rattle.checks.proofs.Through.{ready_last, through}
-use borrow.Author.Rules.{rules}
 use Rattle.checks.proofs.in_balance.Goals as goal
 
 pub byte-end-requires : goal.byte-end-requires

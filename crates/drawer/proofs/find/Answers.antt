@@ -5,7 +5,6 @@ use Prim.Native.Nat.{ℕ, suc, ◌+◌, ◌-◌, ◌≤◌}
 use native.Mathlib.Omega.{arith}
 use lib.ListN.{length, drop}
 use borrow.Author.Tests.{lt-ltb, le-ltb}
-use borrow.Author.Rules.{rules}
 use Rattle.rules.specs.Refusal.{answer}
 use Rattle.rules.specs.Bytes.{record_length}
 use Rattle.rules.specs.Order.{frame_says}

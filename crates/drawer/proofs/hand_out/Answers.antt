@@ -5,7 +5,6 @@ use native.Mathlib.Omega.{arith}
 use Rattle.rules.specs.Drawer.{found, find_says, hand_out}
 use Rattle.rules.proofs.Drawer.{found_within}
 use Rattle.drawer.specs.Said.{said_found}
-use borrow.Author.Rules.{rules}
 use Rattle.drawer.proofs.hand_out.Goals as goal
 
 pub part-requires : goal.part-requires

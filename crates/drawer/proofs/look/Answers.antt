@@ -5,7 +5,6 @@ use native.Mathlib.Omega.{arith}
 use Rattle.rules.specs.Drawer.{own, shared, part, look_says}
 use Rattle.rules.proofs.Drawer.{found_within, look-found}
 use Rattle.drawer.specs.Said.{said_choice}
-use borrow.Author.Rules.{rules}
 use Rattle.drawer.proofs.look.Goals as goal
 
 pub part-requires : goal.part-requires

@@ -11,7 +11,6 @@ use Rattle.rules.proofs.Checked.{says_framed}
 use Rattle.rules.proofs.Drawer.{frame-rest, frame-within}
 use Rattle.answers.specs.Said.{said}
 use Rattle.listing.proofs.Onward.{left_end, left-full, left-fault, left-more, behind_end, behind-full, behind-record, writes}
-use borrow.Author.Rules.{rules}
 use Rattle.listing.proofs.line_at.Goals as goal
 
 pub returns-then-drawer-at : goal.returns-then-drawer-at

@@ -1,7 +1,6 @@
 -- `stand_in::fill` meets its contract. The loop's invariant: the first i bytes are done.
 -- Assumes nothing.
 use mathlib.Core.Path.{◌∙◌}
-use Prim.Native.Nat.{◌-◌}
 use native.Mathlib.Omega.{arith}
 use Rattle.rules.proofs.Checked.{says_checked}
 use Rattle.stand_in.proofs.Filling.{none_filled, byte-ready, byte-filled, none_left, last-ready, last-filled}

@@ -1,7 +1,7 @@
 -- `summary::blank` meets its contract. The loop's invariant: the first x numbers are 65,535, the rest as they were.
 -- Assumes nothing.
 use mathlib.Core.Path.{refl, ap, ◌∙◌}
-use Prim.Native.Nat.{ℕ, ◌-◌}
+use Prim.Native.Nat.{ℕ}
 use native.Mathlib.Omega.{arith}
 use mathlib.Core.List.{List}
 use lib.ListN.{set, length-set}

@@ -8,7 +8,6 @@ use Rattle.rules.specs.Summary.{leaf}
 use Rattle.summary.specs.Laid.{closed}
 use Rattle.summary.proofs.Slots.{lays_none, lays-on}
 use Rattle.summary.proofs.Reading.{Short, fresh_ready, ready_last, read_last}
-use borrow.Author.Rules.{rules}
 use Rattle.summary.proofs.last.Goals as goal
 
 pub bytes-st-requires : goal.bytes-st-requires

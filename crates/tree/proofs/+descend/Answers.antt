@@ -1,11 +1,10 @@
 -- `tree::descend` meets its contract. The measure is the level; the half to which it goes is `Half`'s.
 -- Assumes nothing.
-use mathlib.Core.Path.{◌≡◌, subst, subst⁻¹}
-use mathlib.Core.Logic.{⊎_elim}
+use mathlib.Core.Path.{◌≡◌, subst}
 use Prim.Native.Nat.{ℕ, suc, ◌+◌, ◌-◌, ◌*◌, ◌<◌, ◌≤◌}
 use native.Mathlib.Omega.{arith}
-use Rattle.tree.specs.Tree.{Descended, Within}
-use Rattle.tree.proofs.Nodes.{node_last, halves-within, Half, left, right, half_within, descend_leaf, descend_half}
+use Rattle.tree.specs.Tree.{Within}
+use Rattle.tree.proofs.Nodes.{node_last, halves-within, Half, left, right, half_within, descend_half}
 use Rattle.tree.proofs.+descend.Goals as goal
 use Rattle.tree.proofs.+descend.Goals.{then-number, else-number}
 
@@ -28,12 +27,12 @@ pub descend-requires : goal.descend-requires
 descend-requires t c =
     let s : c.args.level ≡ suc (c.args.level - 1) = omega arith in
     let half : Half c.args.t.now c.args.v c.if-number.half =
-        elim c.if-number.branch [ then-number w ↦ left w.half-is (omega arith) | else-number w ↦ right w.half-is (omega arith) ] in
+    elim c.if-number.branch [ then-number w ↦ left w.half-is (omega arith) | else-number w ↦ right w.half-is (omega arith) ] in
     (omega arith, (c.requires.0, half_within half s c.requires.1))
 
 pub returns : goal.returns
 returns t c =
     let s : c.args.level ≡ suc (c.args.level - 1) = omega arith in
     let half : Half c.args.t.now c.args.v c.if-number.half =
-        elim c.if-number.branch [ then-number w ↦ left w.half-is (omega arith) | else-number w ↦ right w.half-is (omega arith) ] in
+    elim c.if-number.branch [ then-number w ↦ left w.half-is (omega arith) | else-number w ↦ right w.half-is (omega arith) ] in
     descend_half half s c.requires.1 c.descend.ensures

@@ -1,11 +1,11 @@
 -- `tree::climb` meets its contract. The loop's invariant is `Climbing`; the measure is the right node, which halves.
 -- Assumes nothing.
 use mathlib.Core.Path.{subst⁻¹}
-use Prim.Native.Nat.{ℕ, ◌+◌, ◌≤◌}
+use Prim.Native.Nat.{◌+◌}
 use native.Mathlib.Omega.{arith}
 use Rattle.tree.specs.declared.Best.{Best}
-use Rattle.tree.specs.Tree.{at, Between}
-use Rattle.tree.proofs.Climbing.{Inside, climb_starts, climb_inside, climb_on, climb_ends}
+use Rattle.tree.specs.Tree.{Between}
+use Rattle.tree.proofs.Climbing.{climb_starts, climb_inside, climb_on, climb_ends}
 use Rattle.tree.proofs.climb.Goals as goal
 
 pub overflow_add-l : goal.overflow_add-l

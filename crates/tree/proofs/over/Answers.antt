@@ -5,7 +5,7 @@ use native.Mathlib.Nat.{div-le_self}
 use native.Mathlib.Omega.{arith}
 use lib.Bits.{bit_xor}
 use lib.Count.{leading_le}
-use Rattle.tree.proofs.Meeting.{Meets, meeting, meets, over_both}
+use Rattle.tree.proofs.Meeting.{meeting, meets, over_both}
 use Rattle.tree.proofs.over.Goals as goal
 
 pub overflow_sub-level : goal.overflow_sub-level

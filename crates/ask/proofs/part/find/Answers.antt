@@ -1,7 +1,6 @@
 -- `ask::part::find` meets its contract: what is skipped is counted, and the closing is sought in what is left.
 -- Assumes nothing.
 use native.Mathlib.Omega.{arith}
-use borrow.Author.Rules.{rules}
 use Rattle.ask.proofs.Found.{skipped_few, left_part, left_ahead, left_found}
 use Rattle.ask.proofs.part.find.Goals as goal
 

@@ -1,6 +1,5 @@
 -- `ask::part::seek` meets its contract. The loop's invariant: here and next are the states before and behind byte m, and the closing is
 -- not before it. Assumes nothing.
-use Prim.Native.Nat.{◌-◌}
 use native.Mathlib.Omega.{arith}
 use Rattle.scan.proofs.Laws.{ready-fewer}
 use Rattle.ask.proofs.Seek.{some_byte, few, seeks_first, on-within, on-ready, seeks-on, before-byte, in-byte, stops}

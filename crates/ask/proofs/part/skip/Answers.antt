@@ -1,6 +1,6 @@
 -- `ask::part::skip` meets its contract. The loop's invariant: c closings are among the first m bytes, and the closing is not.
 -- Assumes nothing.
-use Prim.Native.Nat.{◌+◌, ◌-◌}
+use Prim.Native.Nat.{◌+◌}
 use native.Mathlib.Omega.{arith}
 use Rattle.ask.proofs.Found.{passed_none, passed-eight, passed_few}
 use Rattle.ask.proofs.part.skip.Goals as goal

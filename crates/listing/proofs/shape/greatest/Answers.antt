@@ -1,7 +1,7 @@
 -- `listing::shape::greatest` meets its contract. The loop's invariant: the first k bytes are read.
 -- Assumes nothing.
 use mathlib.Core.Path.{◌≡◌, refl}
-use Prim.Native.Nat.{◌+◌, ◌-◌}
+use Prim.Native.Nat.{◌+◌}
 use native.Mathlib.Omega.{arith}
 use Rattle.rules.specs.Bytes.{all_bits}
 use Rattle.rules.specs.Listing.{greatest_excess}

@@ -1,6 +1,5 @@
 -- `listing::text::word` meets its contract. The loop's invariant: the first k bytes are written.
 -- Assumes nothing.
-use Prim.Native.Nat.{◌-◌}
 use native.Mathlib.Omega.{arith}
 use mathlib.Core.Path.{refl}
 use Rattle.listing.proofs.Writing.{none_stored, one-stored, all_stored}

@@ -1,6 +1,5 @@
 -- `quick::part::upto` meets its contract. The loop's invariant: the bytes of the block before byte m are read, and the closing does not stand in them.
 -- Assumes nothing.
-use Prim.Native.Nat.{◌-◌}
 use native.Mathlib.Omega.{arith}
 use Rattle.quick.proofs.Reaching.{walks_none, reach-stopped, reach-none, room, next-ready, walks-on, reach-found}
 use Rattle.quick.proofs.part.upto.Goals as goal

@@ -3,7 +3,6 @@
 use mathlib.Core.Path.{◌≡◌}
 use Prim.Native.Nat.{◌+◌, ◌-◌}
 use native.Mathlib.Omega.{arith}
-use borrow.Author.Rules.{rules}
 use Rattle.scan.proofs.Laws.{eight_few, scan-counted}
 use Rattle.scan.proofs.Scan.eight.Goals as goal
 

@@ -1,10 +1,16 @@
 // Lists the drawer on standard input: document 01, "The listing".
 #![tactic(auto)]
 
+ghost use Rattle.std.specs.Prelude.{OnOk};
+ghost use Rattle.std.specs.Io.KnownBytes.{Appends};
+ghost use Rattle.rules.specs.Listing.{listing};
+
 use std::io::{self, Read, Write};
 
-// Line by line through the buffer, until nothing is left or the output takes no more.
-fn write_lines<W: Write>(drawer: &[u8], out: &mut W) -> io::Result<()> {
+// Line by line through the buffer, until nothing is left or the output takes no more. Where all is written, it is the listing.
+fn write_lines<W: Write>(drawer: &[u8], out: &mut W) -> io::Result<()>
+    ensures { OnOk result (Appends (W.contents out.old) (W.contents out.new) (listing drawer.now)) }
+{
     let mut line = listing::buffer();
     let mut rest = listing::start(drawer);
     loop {

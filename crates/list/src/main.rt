@@ -1,28 +1,32 @@
 // Lists the drawer on standard input: document 01, "The listing".
 #![tactic(auto)]
 
-use libc::{STDIN_FILENO, STDOUT_FILENO};
+ghost use Rattle.std.specs.Prelude.{OnOk};
+ghost use Rattle.std.specs.Io.KnownBytes.{Appends};
+ghost use Rattle.rules.specs.Listing.{listing};
 
-// Line by line through the buffer, until nothing is left or the output takes no more.
-fn write_lines(drawer: &[u8]) {
+use std::io::{self, Read, Write};
+
+// Line by line through the buffer, until nothing is left or the output takes no more. Where all is written, it is the listing.
+fn write_lines<W: Write>(drawer: &[u8], out: &mut W) -> io::Result<()>
+    ensures { OnOk result (Appends (W.contents out.old) (W.contents out.new) (listing drawer.now)) }
+{
     let mut line = listing::buffer();
     let mut rest = listing::start(drawer);
     loop {
         let step = listing::next(drawer, rest, &mut line);
         let length = step.length;
         if length == 0 {
-            return;
+            return Ok(());
         }
-        if !io::write_all(STDOUT_FILENO, &line[..length]) {
-            return;
-        }
+        out.write_all(&line[..length])?;
         rest = step.rest;
     }
 }
 
-fn main() {
+fn main(rt: HostRuntime) -> io::Result<()> {
+    let mut drawer = Vec::new(rt.alloc());
     // one byte more than a drawer may have
-    let mut space = [0u8; 65537];
-    let n = io::read_full(STDIN_FILENO, &mut space);
-    write_lines(&space[..n]);
+    rt.stdin().take(65537).read_to_end(&mut drawer)?;
+    write_lines(&drawer, &mut rt.stdout())
 }

@@ -2,24 +2,25 @@
 use crate::{finds, print};
 use restated::part;
 use shown::Line;
+use std::io;
 
-fn drawer(seen: &mut [usize; 15], bytes: &[u8]) {
+fn drawer(rt: &impl Print, seen: &mut [usize; 15], bytes: &[u8]) -> io::Result<()> {
     let line = Line::new().text(b"drawer").hexes(bytes);
-    print::show(line.text(b"\n"));
-    finds::each(seen, bytes, &[0, 1, 2, 3, 64]);
+    print::show(rt, line.text(b"\n"))?;
+    finds::each(rt, seen, bytes, &[0, 1, 2, 3, 64])
 }
 
 // Three records, of which the second has this for its mark's second byte, for n and for its byte.
-fn second(seen: &mut [usize; 15], row: [u8; 4]) {
+fn second(rt: &impl Print, seen: &mut [usize; 15], row: [u8; 4]) -> io::Result<()> {
     let mut bytes = [0x52, 0x4D, 1, 0, 1, 0x52, 0, 0, 0, 0, 0x52, 0x4D, 0, 0];
     bytes[6] = row[0];
     bytes[7] = row[1];
     bytes[8] = row[2];
     bytes[9] = row[3];
-    drawer(seen, &bytes);
+    drawer(rt, seen, &bytes)
 }
 
-pub fn inside(seen: &mut [usize; 15]) {
+pub fn inside(rt: &impl Print, seen: &mut [usize; 15]) -> io::Result<()> {
     let rows: [[u8; 4]; 10] = [
         // whole; a mark that is none; n above 32,768; both; 32,768 entries whose bytes are not there
         [0x4D, 1, 0, 1],
@@ -36,16 +37,17 @@ pub fn inside(seen: &mut [usize; 15]) {
         [0x4D, 0, 0, 1],
     ];
     for k in 0..10 {
-        second(seen, rows[k]);
+        second(rt, seen, rows[k])?;
     }
+    Ok(())
 }
 
-fn counted(seen: &mut [usize; 15], row: [u8; 11]) {
-    drawer(seen, part::counted(&row));
+fn counted(rt: &impl Print, seen: &mut [usize; 15], row: [u8; 11]) -> io::Result<()> {
+    drawer(rt, seen, part::counted(&row))
 }
 
 // No records; heads and records cut short; faults in two records, of which the first decides.
-pub fn cut(seen: &mut [usize; 15]) {
+pub fn cut(rt: &impl Print, seen: &mut [usize; 15]) -> io::Result<()> {
     let rows: [[u8; 11]; 10] = [
         [0, 0, 0, 0, 0, 0, 0, 0, 0, 0, 0],
         [1, 0x52, 0, 0, 0, 0, 0, 0, 0, 0, 0],
@@ -59,6 +61,7 @@ pub fn cut(seen: &mut [usize; 15]) {
         [9, 0x52, 0x4D, 0, 0, 0x52, 0x4D, 0, 0, 0x51, 0],
     ];
     for k in 0..10 {
-        counted(seen, rows[k]);
+        counted(rt, seen, rows[k])?;
     }
+    Ok(())
 }

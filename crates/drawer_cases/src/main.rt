@@ -13,17 +13,19 @@ mod print;
 mod seen;
 mod table;
 
-fn main() {
+use std::io;
+
+fn main(rt: HostRuntime) -> io::Result<()> {
     let mut seen = [0usize; 15];
-    finds::counts(&mut seen);
-    finds::sizes(&mut seen);
-    faults::inside(&mut seen);
-    faults::cut(&mut seen);
-    looks::all(&mut seen);
-    looks::long(&mut seen);
-    table::all(&mut seen);
-    chains::three(&mut seen);
-    chains::last(&mut seen);
-    chains::many(&mut seen);
-    seen::show(&seen);
+    finds::counts(&rt, &mut seen)?;
+    finds::sizes(&rt, &mut seen)?;
+    faults::inside(&rt, &mut seen)?;
+    faults::cut(&rt, &mut seen)?;
+    looks::all(&rt, &mut seen)?;
+    looks::long(&rt, &mut seen)?;
+    table::all(&rt, &mut seen)?;
+    chains::three(&rt, &mut seen)?;
+    chains::last(&rt, &mut seen)?;
+    chains::many(&rt, &mut seen)?;
+    seen::show(&rt, &seen)
 }

@@ -1,20 +1,21 @@
 // How many calls answered, and how many were refused with each number.
 use crate::print;
 use shown::Line;
+use std::io;
 
-fn row(r: usize, count: usize) {
+fn row(rt: &impl Print, r: usize, count: usize) -> io::Result<()> {
     if count == 0 {
-        return;
+        return Ok(());
     }
     if r == 0 {
-        print::show(Line::new().form(b"answered: #\n", &[count]));
-        return;
+        return print::show(rt, Line::new().form(b"answered: #\n", &[count]));
     }
-    print::show(Line::new().form(b"refused #: #\n", &[r, count]));
+    print::show(rt, Line::new().form(b"refused #: #\n", &[r, count]))
 }
 
-pub fn show(seen: &[usize; 15]) {
+pub fn show(rt: &impl Print, seen: &[usize; 15]) -> io::Result<()> {
     for r in 0..15 {
-        row(r, seen[r]);
+        row(rt, r, seen[r])?;
     }
+    Ok(())
 }

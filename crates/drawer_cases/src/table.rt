@@ -3,40 +3,44 @@ use crate::{appends, limits, print};
 use restated::rows;
 use restated::rows::Row;
 use shown::Line;
+use std::io;
 
 // Behind `=` a title; behind `a` a short append; behind `l` one at the limits; any other line is a comment.
-fn line(seen: &mut [usize; 15], text: &[u8]) {
+fn line(rt: &impl Print, seen: &mut [usize; 15], text: &[u8]) -> io::Result<()> {
     if text.len() == 0 {
-        return;
+        return Ok(());
     }
     let row = Row::of(text);
     let values = row.values;
     if text[0] == b'=' {
-        print::show(Line::new().text(&text[1..]).text(b"\n"));
+        print::show(rt, Line::new().text(&text[1..]).text(b"\n"))?;
     } else if text[0] == b'a' {
-        appends::one(seen, values);
+        appends::one(rt, seen, values)?;
     } else if text[0] == b'l' {
-        limits::one(seen, values);
+        limits::one(rt, seen, values)?;
     }
+    Ok(())
 }
 
-fn lines(seen: &mut [usize; 15], text: &[u8]) {
+fn lines(rt: &impl Print, seen: &mut [usize; 15], text: &[u8]) -> io::Result<()> {
     let mut at = 0;
     while at < text.len() {
         let end = rows::end_of(text, at, b'\n');
-        line(seen, &text[at..end]);
+        line(rt, seen, &text[at..end])?;
         if end == text.len() {
-            return;
+            return Ok(());
         }
         at = end + 1;
     }
+    Ok(())
 }
 
 // a: what the buffer begins with, room, used length, how many entries, work numbers.
 // l: what the used bytes are, how many entries, room, used length, work numbers. Records in turn: 64 of them are 288
 // bytes, and 290 bytes are 64 of them and two bytes more.
-pub fn all(seen: &mut [usize; 15]) {
+pub fn all(rt: &impl Print, seen: &mut [usize; 15]) -> io::Result<()> {
     lines(
+        rt,
         seen,
         b"\
 -- room and work exactly enough, one too few of each, and of both
@@ -118,5 +122,5 @@ l 2 32640 65536 57372 32640
 l 2 32641 65536 57372 32641
 l 2 0 65536 65536 0
 ",
-    );
+    )
 }

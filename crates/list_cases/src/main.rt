@@ -9,7 +9,8 @@ mod space;
 
 ghost use Rattle.std.specs.Prelude.{◌+◌, ◌<◌, length};
 
-use libc::STDIN_FILENO;
+use std::io;
+use std::io::Read;
 
 fn wide(b: u8) -> usize
     ensures { result < 256 }
@@ -25,7 +26,7 @@ fn two(input: &[u8], at: usize) -> usize
 }
 
 // Each drawer in turn, up to the first part that is not whole.
-fn cases(input: &[u8], drawer: &mut [u8]) {
+fn cases(rt: &impl Print, input: &[u8], drawer: &mut [u8]) -> io::Result<()> {
     let mut used = 0;
     let mut at = 0;
     while at + 4 <= input.len() {
@@ -33,22 +34,23 @@ fn cases(input: &[u8], drawer: &mut [u8]) {
         let size = two(input, at + 2);
         let from = at + 4;
         if input.len() - from < size {
-            return;
+            return Ok(());
         }
         let end = from + size;
         if times == 0 {
-            show::listing(&drawer[..used]);
+            show::listing(rt, &drawer[..used])?;
             used = 0;
         } else {
             used = space::put(&input[from..end], times, drawer, used);
         }
         at = end;
     }
+    Ok(())
 }
 
-fn main() {
-    let mut input = [0u8; 8192];
-    let n = io::read_full(STDIN_FILENO, &mut input);
+fn main(rt: HostRuntime) -> io::Result<()> {
+    let mut input = Vec::new(rt.alloc());
+    rt.reader().take(8192).read_to_end(&mut input)?;
     let mut drawer = [0u8; 65600];
-    cases(&input[..n], &mut drawer);
+    cases(&rt, &input, &mut drawer)
 }

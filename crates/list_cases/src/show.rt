@@ -1,7 +1,7 @@
 // A listing as it is; of a line of more than 100 characters its length and a digest.
 ghost use Rattle.std.specs.Prelude.{◌<◌};
 
-use libc::STDOUT_FILENO;
+use std::io;
 
 fn wide(b: u8) -> u64
     ensures { result < 256 }
@@ -19,27 +19,23 @@ fn digest(line: &[u8]) -> u64 {
     value
 }
 
-fn line(text: &[u8]) {
+fn line(rt: &impl Print, text: &[u8]) -> io::Result<()> {
     if text.len() <= 100 {
-        io::write_all(STDOUT_FILENO, text);
-        return;
+        return rt.write_all(text);
     }
-    io::print_decimal(STDOUT_FILENO, text.len() as u64);
-    io::write_all(STDOUT_FILENO, b" characters, digest ");
-    io::print_decimal(STDOUT_FILENO, digest(text));
-    io::write_all(STDOUT_FILENO, b"\n");
+    println!(rt; "{} characters, digest {}", text.len(), digest(text))
 }
 
-pub fn listing(drawer: &[u8]) {
+pub fn listing(rt: &impl Print, drawer: &[u8]) -> io::Result<()> {
     let mut text = listing::buffer();
     let mut rest = listing::start(drawer);
     loop {
         let step = listing::next(drawer, rest, &mut text);
         let length = step.length;
         if length == 0 {
-            return;
+            return Ok(());
         }
-        line(&text[..length]);
+        line(rt, &text[..length])?;
         rest = step.rest;
     }
 }

@@ -8,6 +8,7 @@ use restated::random::Stretch;
 use restated::tally::Tally;
 use restated::{compare, part, plain, random, tally};
 use shown::Line;
+use std::io;
 
 #[derive(Clone, Copy)]
 enum Manner {
@@ -179,7 +180,7 @@ fn one(seen: Seen, manner: Manner, k: u64) -> Seen {
     asks(seen, part::bytes(&b, made::size(n)), &s, n, k)
 }
 
-fn many(name: &[u8], manner: Manner) {
+fn many(rt: &impl Print, name: &[u8], manner: Manner) -> io::Result<()> {
     let mut seen = Seen {
         allowed: Tally::new(),
         nines: Tally::new(),
@@ -188,14 +189,14 @@ fn many(name: &[u8], manner: Manner) {
     for k in 0..1200 {
         seen = one(seen, manner, k);
     }
-    print::show(Line::new().text(name).tally(seen.allowed));
-    print::show(Line::new().text(b"  must be 9").tally(seen.nines));
-    print::show(Line::new().text(b"  its own after all").tally(seen.own));
+    print::show(rt, Line::new().text(name).tally(seen.allowed))?;
+    print::show(rt, Line::new().text(b"  must be 9").tally(seen.nines))?;
+    print::show(rt, Line::new().text(b"  its own after all").tally(seen.own))
 }
 
-pub fn all() {
-    many(b"damaged records", Manner::Damaged);
-    many(b"summaries of random numbers", Manner::Random);
-    many(b"summaries of other records", Manner::Another);
-    many(b"summaries with one number changed", Manner::Changed);
+pub fn all(rt: &impl Print) -> io::Result<()> {
+    many(rt, b"damaged records", Manner::Damaged)?;
+    many(rt, b"summaries of random numbers", Manner::Random)?;
+    many(rt, b"summaries of other records", Manner::Another)?;
+    many(rt, b"summaries with one number changed", Manner::Changed)
 }

@@ -10,12 +10,14 @@ mod print;
 mod refused;
 mod rows;
 
-fn main() {
-    rows::falling();
-    rows::five();
-    refused::asks();
-    refused::fills();
-    own::columns();
-    own::long();
-    foreign::all();
+use std::io;
+
+fn main(rt: HostRuntime) -> io::Result<()> {
+    rows::falling(&rt)?;
+    rows::five(&rt)?;
+    refused::asks(&rt)?;
+    refused::fills(&rt)?;
+    own::columns(&rt)?;
+    own::long(&rt)?;
+    foreign::all(&rt)
 }

@@ -6,6 +6,7 @@ use restated::random::Stretch;
 use restated::tally::Tally;
 use restated::{columns, compare, part, plain, random};
 use shown::Line;
+use std::io;
 
 #[derive(Clone, Copy)]
 struct Run {
@@ -64,9 +65,9 @@ fn one(run: Run, kind: Kind, k: u64) -> Run {
     column(run, some, part::bytes(&out, size), k, 40)
 }
 
-fn show(line: Line, run: Run) {
-    print::show(line.tally(run.fills));
-    print::show(Line::new().text(b"  their quick asks").tally(run.asks));
+fn show(rt: &impl Print, line: Line, run: Run) -> io::Result<()> {
+    print::show(rt, line.tally(run.fills))?;
+    print::show(rt, Line::new().text(b"  their quick asks").tally(run.asks))
 }
 
 fn none() -> Run {
@@ -76,48 +77,54 @@ fn none() -> Run {
     }
 }
 
-fn many(name: &[u8], kind: Kind, count: u64) {
+fn many(rt: &impl Print, name: &[u8], kind: Kind, count: u64) -> io::Result<()> {
     let mut run = none();
     for k in 0..count {
         run = one(run, kind, k);
     }
     show(
+        rt,
         Line::new()
             .text(name)
             .form(b", # columns", &[count as usize]),
         run,
-    );
+    )
 }
 
-pub fn columns() {
-    many(b"random below 2", Kind::Random(2), 500);
-    many(b"random below 3", Kind::Random(3), 500);
-    many(b"random below 16", Kind::Random(16), 500);
-    many(b"random below 4294967296", Kind::Random(4294967296), 500);
-    many(b"equal", Kind::Random(1), 100);
-    many(b"falling", Kind::Falling, 100);
-    many(b"0, then falling", Kind::Worst, 100);
-    many(b"falling with noise", Kind::Noisy, 200);
-    many(b"saw of 7", Kind::Saw(7), 100);
-    many(b"saw of 300", Kind::Saw(300), 100);
+pub fn columns(rt: &impl Print) -> io::Result<()> {
+    many(rt, b"random below 2", Kind::Random(2), 500)?;
+    many(rt, b"random below 3", Kind::Random(3), 500)?;
+    many(rt, b"random below 16", Kind::Random(16), 500)?;
+    many(
+        rt,
+        b"random below 4294967296",
+        Kind::Random(4294967296),
+        500,
+    )?;
+    many(rt, b"equal", Kind::Random(1), 100)?;
+    many(rt, b"falling", Kind::Falling, 100)?;
+    many(rt, b"0, then falling", Kind::Worst, 100)?;
+    many(rt, b"falling with noise", Kind::Noisy, 200)?;
+    many(rt, b"saw of 7", Kind::Saw(7), 100)?;
+    many(rt, b"saw of 300", Kind::Saw(300), 100)
 }
 
 // The longest column.
-fn longest(name: &[u8], kind: Kind) {
+fn longest(rt: &impl Print, name: &[u8], kind: Kind) -> io::Result<()> {
     let mut entries = [0u32; 32768];
     let mut out = [0xEEu8; 8200];
     columns::fill(&mut entries, kind, 1);
     let size = made::record(&entries, &mut out);
     let run = column(none(), &entries, part::bytes(&out, size), 2, 1000);
-    show(Line::new().text(b"32768 entries, ").text(name), run);
+    show(rt, Line::new().text(b"32768 entries, ").text(name), run)
 }
 
-pub fn long() {
-    longest(b"random below 2", Kind::Random(2));
-    longest(b"random below 4294967296", Kind::Random(4294967296));
-    longest(b"equal", Kind::Random(1));
-    longest(b"falling", Kind::Falling);
-    longest(b"0, then falling", Kind::Worst);
-    longest(b"falling with noise", Kind::Noisy);
-    longest(b"saw of 300", Kind::Saw(300));
+pub fn long(rt: &impl Print) -> io::Result<()> {
+    longest(rt, b"random below 2", Kind::Random(2))?;
+    longest(rt, b"random below 4294967296", Kind::Random(4294967296))?;
+    longest(rt, b"equal", Kind::Random(1))?;
+    longest(rt, b"falling", Kind::Falling)?;
+    longest(rt, b"0, then falling", Kind::Worst)?;
+    longest(rt, b"falling with noise", Kind::Noisy)?;
+    longest(rt, b"saw of 300", Kind::Saw(300))
 }

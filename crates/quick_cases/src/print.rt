@@ -1,9 +1,10 @@
 // What the rows show.
 use restated::part;
 use shown::Line;
+use std::io;
 
-pub fn show(line: Line) {
+pub fn show(rt: &impl Print, line: Line) -> io::Result<()> {
     let bytes = line.bytes;
     let end = line.end;
-    io::write_all(1, part::bytes(&bytes, end));
+    rt.write_all(part::bytes(&bytes, end))
 }

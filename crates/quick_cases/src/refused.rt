@@ -4,19 +4,20 @@ use answers::Answer;
 use restated::tally::Tally;
 use restated::{compare, part, plain};
 use shown::Line;
+use std::io;
 
 // Mark, n and body in six bytes, how many of these are meant, the summary's length, i and j.
-fn ask(row: [usize; 7]) {
+fn ask(rt: &impl Print, row: [usize; 7]) -> io::Result<()> {
     let summary = [65535u16; 900];
     let six = plain::six(row[0], row[1], row[2]);
     let bytes = part::bytes(&six, row[3]);
     let a = quick::quick_ask(bytes, part::numbers(&summary, row[4]), row[5], row[6]);
     let line = Line::new().text(b"quick ask").hexes(bytes);
     let asked = line.form(b" with #, #..#:", &[row[4], row[5], row[6]]);
-    print::show(asked.answer(a).text(b"\n"));
+    print::show(rt, asked.answer(a).text(b"\n"))
 }
 
-pub fn asks() {
+pub fn asks(rt: &impl Print) -> io::Result<()> {
     let rows: [[usize; 7]; 35] = [
         // 5 for fewer than 4 bytes; before 4, 3, 8
         [0x524D, 1, 1, 0, 896, 0, 0],
@@ -63,8 +64,9 @@ pub fn asks() {
         [0x524D, 1, 2, 5, 896, 1, 0],
     ];
     for k in 0..35 {
-        ask(rows[k]);
+        ask(rt, rows[k])?;
     }
+    Ok(())
 }
 
 // What 900 numbers of 7 should hold afterwards: where fill is refused all are unchanged, else the first 896 alone are
@@ -78,17 +80,17 @@ fn after(bytes: &[u8], a: Answer) -> [u16; 900] {
 }
 
 // Mark, n, body, how many of the six bytes, how many of the 900 numbers.
-fn fill(row: [usize; 5]) {
+fn fill(rt: &impl Print, row: [usize; 5]) -> io::Result<()> {
     let mut summary = [7u16; 900];
     let six = plain::six(row[0], row[1], row[2]);
     let bytes = part::bytes(&six, row[3]);
     let a = summary::fill(bytes, part::numbers_mut(&mut summary, row[4]));
     let t = Tally::new().of(compare::numbers(&summary, &after(bytes, a)));
     let line = Line::new().text(b"fill").hexes(bytes);
-    print::show(line.form(b" into #:", &[row[4]]).answer(a).tally(t));
+    print::show(rt, line.form(b" into #:", &[row[4]]).answer(a).tally(t))
 }
 
-pub fn fills() {
+pub fn fills(rt: &impl Print) -> io::Result<()> {
     let rows: [[usize; 5]; 22] = [
         // 5, 4, 1, 5, 11, 6, 7, each before 3
         [0x524D, 1, 1, 3, 895],
@@ -118,6 +120,7 @@ pub fn fills() {
         [0x524D, 5, 0x133, 6, 897],
     ];
     for k in 0..22 {
-        fill(rows[k]);
+        fill(rt, rows[k])?;
     }
+    Ok(())
 }

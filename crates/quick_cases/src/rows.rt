@@ -3,6 +3,7 @@ use crate::{made, print};
 use restated::columns::Kind;
 use restated::part;
 use shown::Line;
+use std::io;
 
 // Ten slots of a summary: block ends, the tree's first two, leaves, closings.
 fn slots(line: Line, summary: &[u16]) -> Line {
@@ -15,42 +16,45 @@ fn slots(line: Line, summary: &[u16]) -> Line {
     shown.text(b"\n")
 }
 
-fn ask(bytes: &[u8], summary: &[u16], i: usize, j: usize) {
+fn ask(rt: &impl Print, bytes: &[u8], summary: &[u16], i: usize, j: usize) -> io::Result<()> {
     let line = Line::new().form(b"  quick ask #..#:", &[i, j]);
     let a = quick::quick_ask(bytes, summary, i, j);
-    print::show(line.answer(a).text(b"\n"));
+    print::show(rt, line.answer(a).text(b"\n"))
 }
 
 // Falling entries up to number `last`.
-fn falls(n: usize, last: usize) {
+fn falls(rt: &impl Print, n: usize, last: usize) -> io::Result<()> {
     let mut summary = [7u16; 896];
     let out = made::of(Kind::Falling, n, 0);
     let bytes = part::bytes(&out, made::size(n));
     let line = Line::new().form(b"# falling, fill:", &[n]);
     let a = summary::fill(bytes, &mut summary);
-    print::show(slots(line.answer(a), &summary));
-    ask(bytes, &summary, 0, last);
+    print::show(rt, slots(line.answer(a), &summary))?;
+    ask(rt, bytes, &summary, 0, last)
 }
 
-pub fn falling() {
-    falls(129, 128);
-    falls(128, 127);
+pub fn falling(rt: &impl Print) -> io::Result<()> {
+    falls(rt, 129, 128)?;
+    falls(rt, 128, 127)
 }
 
-fn four(summary: &[u16]) {
+fn four(rt: &impl Print, summary: &[u16]) -> io::Result<()> {
     let bytes = [0x52, 0x4D, 5, 0, 0x33, 1];
-    ask(&bytes, summary, 0, 4);
-    ask(&bytes, summary, 1, 3);
-    ask(&bytes, summary, 2, 4);
-    ask(&bytes, summary, 2, 2);
+    ask(rt, &bytes, summary, 0, 4)?;
+    ask(rt, &bytes, summary, 1, 3)?;
+    ask(rt, &bytes, summary, 2, 4)?;
+    ask(rt, &bytes, summary, 2, 2)
 }
 
 // 4 2 4 2 9 with a summary of 65,535s, and with its own.
-pub fn five() {
+pub fn five(rt: &impl Print) -> io::Result<()> {
     let mut summary = [65535u16; 896];
-    print::show(slots(Line::new().text(b"4 2 4 2 9, 65535s"), &summary));
-    four(&summary);
+    print::show(rt, slots(Line::new().text(b"4 2 4 2 9, 65535s"), &summary))?;
+    four(rt, &summary)?;
     let a = summary::fill(&[0x52, 0x4D, 5, 0, 0x33, 1], &mut summary);
-    print::show(slots(Line::new().text(b"4 2 4 2 9, fill:").answer(a), &summary));
-    four(&summary);
+    print::show(
+        rt,
+        slots(Line::new().text(b"4 2 4 2 9, fill:").answer(a), &summary),
+    )?;
+    four(rt, &summary)
 }

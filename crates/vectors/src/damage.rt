@@ -5,6 +5,7 @@ use restated::columns::Kind;
 use restated::tally::Tally;
 use restated::{columns, part, plain, tally};
 use shown::Line;
+use std::io;
 
 // The bytes with bit p turned over.
 fn turned(bytes: [u8; 40], p: usize) -> [u8; 40] {
@@ -64,9 +65,9 @@ fn run(seen: &mut [usize; 15]) -> Tally {
     t
 }
 
-pub fn records() {
+pub fn records(rt: &impl Print) -> io::Result<()> {
     let mut seen = [0usize; 15];
     let t = run(&mut seen);
     let line = Line::new().text(b"129 records damaged");
-    print::show(seen::counts(line, &seen).tally(t));
+    print::show(rt, seen::counts(line, &seen).tally(t))
 }

@@ -4,6 +4,7 @@ use judge::asks;
 use restated::tally::Tally;
 use restated::{part, plain};
 use shown::Line;
+use std::io;
 
 // Every ask of a record of up to eight entries, against its stand-in.
 fn asked(tally: Tally, bytes: &[u8]) -> Tally {
@@ -34,21 +35,21 @@ fn run(seen: &mut [usize; 15], n: usize, count: usize) -> Tally {
 }
 
 // All of n entries, `count` of them.
-fn of(n: usize, count: usize) {
+fn of(rt: &impl Print, n: usize, count: usize) -> io::Result<()> {
     let mut seen = [0usize; 15];
     let t = run(&mut seen, n, count);
     let line = Line::new().form(b"every body, n = #", &[n]);
-    print::show(seen::counts(line, &seen).tally(t));
+    print::show(rt, seen::counts(line, &seen).tally(t))
 }
 
-pub fn bodies() {
-    of(0, 1);
-    of(1, 256);
-    of(2, 256);
-    of(3, 256);
-    of(4, 256);
-    of(5, 65536);
-    of(6, 65536);
-    of(7, 65536);
-    of(8, 65536);
+pub fn bodies(rt: &impl Print) -> io::Result<()> {
+    of(rt, 0, 1)?;
+    of(rt, 1, 256)?;
+    of(rt, 2, 256)?;
+    of(rt, 3, 256)?;
+    of(rt, 4, 256)?;
+    of(rt, 5, 65536)?;
+    of(rt, 6, 65536)?;
+    of(rt, 7, 65536)?;
+    of(rt, 8, 65536)
 }

@@ -6,6 +6,7 @@ use restated::columns::Kind;
 use restated::tally::Tally;
 use restated::{columns, compare, part};
 use shown::Line;
+use std::io;
 
 // The record checked, stood in for and built again.
 fn again(tally: Tally, bytes: &[u8]) -> Tally {
@@ -31,10 +32,16 @@ fn ends(line: Line, bytes: &[u8], n: usize) -> Line {
         .answer(ask::ask(bytes, 0, n - 1))
 }
 
-fn record(line: Line, column: &[u32], bytes: &[u8], tally: Tally) {
+fn record(
+    rt: &impl Print,
+    line: Line,
+    column: &[u32],
+    bytes: &[u8],
+    tally: Tally,
+) -> io::Result<()> {
     let n = column.len();
     let t = asks::all(tally, column, bytes, n / 16);
-    print::show(ends(line, bytes, n).tally(again(t, bytes)));
+    print::show(rt, ends(line, bytes, n).tally(again(t, bytes)))
 }
 
 // How many work numbers build changes, where it answers so: none where it refuses.
@@ -43,7 +50,7 @@ fn used(column: &[u32], size: usize) -> usize {
 }
 
 // A column built with more work and output than it needs: the work, what is behind the record, the record.
-fn row(line: Line, column: &[u32]) {
+fn row(rt: &impl Print, line: Line, column: &[u32]) -> io::Result<()> {
     let mut work = [7u16; 32769];
     let mut out = [0xEEu8; 8197];
     let a = build::build(column, &mut work, &mut out);
@@ -53,34 +60,33 @@ fn row(line: Line, column: &[u32]) {
         .of(compare::kept(&out, size));
     let said = line.form(b"#:", &[column.len()]).answer(a);
     if size == 0 {
-        print::show(said.tally(t));
-        return;
+        return print::show(rt, said.tally(t));
     }
-    record(said, column, part::bytes(&out, size), t);
+    record(rt, said, column, part::bytes(&out, size), t)
 }
 
-fn falling(n: usize) {
+fn falling(rt: &impl Print, n: usize) -> io::Result<()> {
     let mut column = [0u32; 32769];
     let some = part::counts_mut(&mut column, n);
     columns::fill(some, Kind::Falling, 0);
-    row(Line::new().text(b"falling "), some);
+    row(rt, Line::new().text(b"falling "), some)
 }
 
-fn mixed(n: usize, values: u64) {
+fn mixed(rt: &impl Print, n: usize, values: u64) -> io::Result<()> {
     let mut column = [0u32; 32769];
     let some = part::counts_mut(&mut column, n);
     columns::fill(some, Kind::Random(values), 1);
-    row(Line::new().form(b"below #, ", &[values as usize]), some);
+    row(rt, Line::new().form(b"below #, ", &[values as usize]), some)
 }
 
-pub fn columns() {
-    falling(128);
-    falling(129);
-    falling(32767);
-    falling(32768);
-    falling(32769);
-    mixed(32768, 1);
-    mixed(32768, 2);
-    mixed(32768, 65536);
-    mixed(32769, 1);
+pub fn columns(rt: &impl Print) -> io::Result<()> {
+    falling(rt, 128)?;
+    falling(rt, 129)?;
+    falling(rt, 32767)?;
+    falling(rt, 32768)?;
+    falling(rt, 32769)?;
+    mixed(rt, 32768, 1)?;
+    mixed(rt, 32768, 2)?;
+    mixed(rt, 32768, 65536)?;
+    mixed(rt, 32769, 1)
 }

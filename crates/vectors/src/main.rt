@@ -13,16 +13,18 @@ mod seen;
 mod small;
 mod strings;
 
-fn main() {
-    small::columns();
-    small::asks();
-    small::stand_ins();
-    refused::all();
-    long::columns();
-    refused::long_columns();
-    refused::long_records();
-    every::bodies();
-    random::columns();
-    damage::records();
-    strings::all();
+use std::io;
+
+fn main(rt: HostRuntime) -> io::Result<()> {
+    small::columns(&rt)?;
+    small::asks(&rt)?;
+    small::stand_ins(&rt)?;
+    refused::all(&rt)?;
+    long::columns(&rt)?;
+    refused::long_columns(&rt)?;
+    refused::long_records(&rt)?;
+    every::bodies(&rt)?;
+    random::columns(&rt)?;
+    damage::records(&rt)?;
+    strings::all(&rt)
 }

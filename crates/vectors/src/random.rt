@@ -5,6 +5,7 @@ use restated::columns::Kind;
 use restated::tally::Tally;
 use restated::{columns, compare, part, plain};
 use shown::Line;
+use std::io;
 
 #[derive(Clone, Copy)]
 struct Run {
@@ -53,18 +54,18 @@ fn lengths(values: u64) -> Run {
     run
 }
 
-fn below(values: u64) {
+fn below(rt: &impl Print, values: u64) -> io::Result<()> {
     let run = lengths(values);
     let columns = run.columns;
     let asks = run.asks;
     let line = Line::new().form(b"201 random columns of entries below #", &[values as usize]);
-    print::show(line.tally(columns));
-    print::show(Line::new().text(b"every ask of theirs").tally(asks));
+    print::show(rt, line.tally(columns))?;
+    print::show(rt, Line::new().text(b"every ask of theirs").tally(asks))
 }
 
-pub fn columns() {
-    below(2);
-    below(3);
-    below(16);
-    below(4294967296);
+pub fn columns(rt: &impl Print) -> io::Result<()> {
+    below(rt, 2)?;
+    below(rt, 3)?;
+    below(rt, 16)?;
+    below(rt, 4294967296)
 }

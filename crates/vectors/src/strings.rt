@@ -3,6 +3,7 @@ use crate::{print, seen};
 use restated::tally::Tally;
 use restated::{part, plain, random};
 use shown::Line;
+use std::io;
 
 fn string(tally: Tally, seen: &mut [usize; 15], k: u64) -> Tally {
     let n = (k % 33) as usize;
@@ -23,9 +24,9 @@ fn run(seen: &mut [usize; 15]) -> Tally {
     t
 }
 
-pub fn all() {
+pub fn all(rt: &impl Print) -> io::Result<()> {
     let mut seen = [0usize; 15];
     let t = run(&mut seen);
     let line = Line::new().text(b"50000 random strings");
-    print::show(seen::counts(line, &seen).tally(t));
+    print::show(rt, seen::counts(line, &seen).tally(t))
 }

@@ -3,15 +3,16 @@ use crate::print;
 use restated::columns;
 use restated::columns::Kind;
 use shown::Line;
+use std::io;
 
-fn ask(bytes: &[u8], row: [usize; 4]) {
+fn ask(rt: &impl Print, bytes: &[u8], row: [usize; 4]) -> io::Result<()> {
     let window = print::window(Line::new(), bytes, row[0], row[1]);
     let asked = window.form(b"; ask #..#:", &[row[2], row[3]]);
     let line = print::ask(asked, bytes, row[0], row[1], row[2], row[3]);
-    print::show(line.text(b"\n"));
+    print::show(rt, line.text(b"\n"))
 }
 
-fn windows(bytes: &[u8]) {
+fn windows(rt: &impl Print, bytes: &[u8]) -> io::Result<()> {
     let rows: [[usize; 4]; 12] = [
         [10, 120, 10, 120],
         [10, 120, 11, 119],
@@ -29,17 +30,18 @@ fn windows(bytes: &[u8]) {
         [129, 129, 128, 128],
     ];
     for k in 0..12 {
-        ask(bytes, rows[k]);
+        ask(rt, bytes, rows[k])?;
     }
+    Ok(())
 }
 
-pub fn falling() {
+pub fn falling(rt: &impl Print) -> io::Result<()> {
     let mut column = [0u32; 129];
     let mut work = [7u16; 129];
     let mut out = [0xEEu8; 37];
     columns::fill(&mut column, Kind::Falling, 0);
     let a = build::build(&column, &mut work, &mut out);
     let line = print::answer(Line::new().text(b"129 falling:"), a);
-    print::show(line.text(b"\n"));
-    windows(&out);
+    print::show(rt, line.text(b"\n"))?;
+    windows(rt, &out)
 }

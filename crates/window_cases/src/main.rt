@@ -7,8 +7,10 @@ mod long;
 mod print;
 mod refused;
 
-fn main() {
-    every::all();
-    refused::all();
-    long::falling();
+use std::io;
+
+fn main(rt: HostRuntime) -> io::Result<()> {
+    every::all(&rt)?;
+    refused::all(&rt)?;
+    long::falling(&rt)
 }

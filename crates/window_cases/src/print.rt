@@ -2,11 +2,12 @@
 use answers::Answer;
 use restated::part;
 use shown::Line;
+use std::io;
 
-pub fn show(line: Line) {
+pub fn show(rt: &impl Print, line: Line) -> io::Result<()> {
     let bytes = line.bytes;
     let end = line.end;
-    io::write_all(1, part::bytes(&bytes, end));
+    rt.write_all(part::bytes(&bytes, end))
 }
 
 // A number, or a refusal's with a mark before it.

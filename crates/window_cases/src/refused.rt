@@ -2,9 +2,10 @@
 use crate::print;
 use restated::part;
 use shown::Line;
+use std::io;
 
 // What the check says of some bytes; then a window, with asks that are in order, crossed and far outside.
-fn row(bytes: &[u8], first: usize, last: usize) {
+fn row(rt: &impl Print, bytes: &[u8], first: usize, last: usize) -> io::Result<()> {
     let far = 18446744073709551615;
     let check = print::answer(
         Line::new().text(b"check").hexes(bytes).text(b":"),
@@ -15,18 +16,18 @@ fn row(bytes: &[u8], first: usize, last: usize) {
     let crossed = print::ask(near, bytes, first, last, 1, 0);
     let past = print::ask(crossed, bytes, first, last, 0, far);
     let all = print::ask(past, bytes, first, last, far, 0);
-    print::show(all.text(b"\n"));
+    print::show(rt, all.text(b"\n"))
 }
 
 // A window on entry 0 alone; one that is crossed; one that no record has. The row's first number says how many bytes.
-fn three(six: [u8; 7]) {
+fn three(rt: &impl Print, six: [u8; 7]) -> io::Result<()> {
     let bytes = part::counted(&six);
-    row(bytes, 0, 0);
-    row(bytes, 1, 0);
-    row(bytes, 18446744073709551615, 18446744073709551615);
+    row(rt, bytes, 0, 0)?;
+    row(rt, bytes, 1, 0)?;
+    row(rt, bytes, 18446744073709551615, 18446744073709551615)
 }
 
-pub fn all() {
+pub fn all(rt: &impl Print) -> io::Result<()> {
     let rows: [[u8; 7]; 14] = [
         // fewer than four bytes; the mark; too many entries; bytes that end before the record does
         [0, 0, 0, 0, 0, 0, 0],
@@ -47,6 +48,7 @@ pub fn all() {
         [5, 0x52, 0x4D, 1, 0, 1, 0],
     ];
     for k in 0..14 {
-        three(rows[k]);
+        three(rt, rows[k])?;
     }
+    Ok(())
 }

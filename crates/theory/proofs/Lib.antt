@@ -1,5 +1,6 @@
 pub mod Tree
 pub mod Spine
+pub mod Pushed
 pub mod Ordered
 pub mod Written
 pub mod Parse

@@ -16,7 +16,7 @@ use Rattle.rules.proofs.Excess.{closings-append}
 use Rattle.rules.proofs.ClosingPlace.{closing-within}
 use Rattle.rules.proofs.Bytes.{all_bits-length, all_bits-append}
 use Rattle.rules.proofs.Parts.{closing_first, closing_second}
-use Rattle.rules.proofs.Blocks.{in_block}
+use Rattle.rules.proofs.Blocks.{in_block_lem}
 use Rattle.blocks.specs.Select.{select_of}
 
 pub select_first : (s t : List Paren) (k : ℕ) → k < closings s → select_of (s ++ t) k ≡ closing_place s k
@@ -50,7 +50,7 @@ pub select_block : (s t : List Paren) (i k : ℕ) → i < closings s → closing
 select_block s t i k h e =
     let place = closing_first s t i h in
     let front : take (256 * k) (s ++ t) ≡ take (256 * k) s = take-append-le (256 * k) s t (omega (arith, closing-within s i h)) in
-    let w = rw front at (in_block (s ++ t) i k (omega (arith, closings-append s t)) (rw place e)) in
+    let w = rw front at (in_block_lem (s ++ t) i k (omega (arith, closings-append s t)) (rw place e)) in
     rw (select_there (take 256 (drop (256 * k) (s ++ t))) (i - closings (take (256 * k) s)) w.among) (sym w.stands ∙ place)
 
 -- ---- bytes from number at on

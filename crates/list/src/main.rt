@@ -5,7 +5,7 @@ ghost use Rattle.std.specs.Prelude.{OnOk};
 ghost use Rattle.std.specs.Io.KnownBytes.{Appends};
 ghost use Rattle.rules.specs.Listing.{listing};
 
-use std::io::{self, Read, Write};
+use std::io::{self, Write};
 
 // Line by line through the buffer, until nothing is left or the output takes no more. Where all is written, it is the listing.
 fn write_lines<W: Write>(drawer: &[u8], out: &mut W) -> io::Result<()>
@@ -25,8 +25,8 @@ fn write_lines<W: Write>(drawer: &[u8], out: &mut W) -> io::Result<()>
 }
 
 fn main(rt: HostRuntime) -> io::Result<()> {
-    let mut drawer = Vec::new(rt.alloc());
     // one byte more than a drawer may have
-    rt.stdin().take(65537).read_to_end(&mut drawer)?;
-    write_lines(&drawer, &mut rt.stdout())
+    let mut space = [0u8; 65537];
+    let n = input::read_full(&mut rt.stdin(), &mut space)?;
+    write_lines(&space[..n], &mut rt.stdout())
 }

@@ -10,7 +10,6 @@ mod space;
 ghost use Rattle.std.specs.Prelude.{◌+◌, ◌<◌, length};
 
 use std::io;
-use std::io::Read;
 
 fn wide(b: u8) -> usize
     ensures { result < 256 }
@@ -49,8 +48,8 @@ fn cases(rt: &impl Print, input: &[u8], drawer: &mut [u8]) -> io::Result<()> {
 }
 
 fn main(rt: HostRuntime) -> io::Result<()> {
-    let mut input = Vec::new(rt.alloc());
-    rt.reader().take(8192).read_to_end(&mut input)?;
+    let mut text = [0u8; 8192];
+    let n = input::read_full(&mut rt.stdin(), &mut text)?;
     let mut drawer = [0u8; 65600];
-    cases(&rt, &input, &mut drawer)
+    cases(&rt, &text[..n], &mut drawer)
 }

@@ -18,7 +18,7 @@ use Rattle.rules.specs.Bytes.{all_bits}
 use Rattle.rules.proofs.Bytes.{all_bits-length}
 use Rattle.rules.proofs.ClosingPlace.{closing-within}
 use Rattle.rules.proofs.Parts.{closing-closes}
-use Rattle.rules.proofs.Blocks.{closing-from, in_block, excess-closings}
+use Rattle.rules.proofs.Blocks.{closing-from, in_block_lem, excess-closings}
 use Rattle.blocks.specs.Search.{Before}
 use Rattle.blocks.specs.Select.{select_of}
 use Rattle.quick.specs.Part.{end_of, ClosingAt}
@@ -121,7 +121,7 @@ module _ (body t : List ℕ) (n k i : ℕ) (ours : Ours body t n) (among : i < n
       let m : (2 * i + e - 256 * k) / 2 ≡ i - closings (take (256 * k) u) = omega (arith, counted, passed) in
       let all : n ≤ closings u = closings_all body t n ours in
       let at : closing_place u i ≡ closing_in body n i = closing_same body t n ours i among in
-      let p = in_block u i k (omega arith) (ap (◌/ 256) at ∙ there) in
+      let p = in_block_lem u i k (omega arith) (ap (◌/ 256) at ∙ there) in
       let g : x ≡ closing_place bits (i - closings (take (256 * k) u)) =
       f ∙ ap₂ select_of (block-bits body k block) m ∙ rw (lt-ltb (i - closings (take (256 * k) u)) (closings bits) p.among) in
       let within = closing-within bits (i - closings (take (256 * k) u)) p.among in

@@ -54,8 +54,8 @@ in_part s a w i l h =
 
 -- ---- blocks
 
-pub in_block : (s : List Paren) (i k : ℕ) → i < closings s → closing_place s i / 256 ≡ k → InPart s (256 * k) 256 i (i - closings (take (256 * k) s))
-in_block s i k h e =
+pub in_block_lem : (s : List Paren) (i k : ℕ) → i < closings s → closing_place s i / 256 ≡ k → InPart s (256 * k) 256 i (i - closings (take (256 * k) s))
+in_block_lem s i k h e =
     in_part s (256 * k) 256 i (closing-from s i (256 * k) h (omega arith)) (closing-upto s i (256 * k + 256) h (omega arith))
 
 -- ---- balanced parentheses

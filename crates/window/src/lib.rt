@@ -9,7 +9,7 @@ ghost use Rattle.window.specs.Made.{Made, in_window};
 
 use answers::{Answer, Refusal};
 
-#[derive(Drop)]
+#[derive(Clone, Copy)]
 pub struct Window<'a> {
     pub bytes: &'a [u8],
     pub first: usize,

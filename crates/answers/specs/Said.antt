@@ -1,10 +1,8 @@
--- Document 01, "Refusal numbers" and "Forms by place": the paper's number and values for each case of the two enums.
-use Rattle.std.specs.Prelude.{ℕ}
+-- Document 01, "Refusal numbers" and "Forms by place": the paper's number for each refusal, and its values for each case of an answer.
+use Rattle.std.specs.Prelude.{ℕ, Result, Ok, Err}
 use Rattle.rules.specs.Refusal.{Outcome, answer, refusal}
 use Rattle.answers.specs.declared.Refusal.{Refusal}
 use Rattle.answers.specs.declared.Refusal.TheVariants.{TooManyEntries, OutputShort, WorkShort, Unmarked, CutShort, UnusedBit, Unbalanced, OutOfRange, Foreign, NoRecord, BytesAfter, DrawerLong, UsedWrong, DrawerFull}
-use Rattle.answers.specs.declared.Answer.{Answer}
-use Rattle.answers.specs.declared.Answer.TheVariants.{Is, Refused}
 
 abbrev pub number : Refusal → ℕ
 number TooManyEntries = 1
@@ -22,6 +20,10 @@ number DrawerLong = 12
 number UsedWrong = 13
 number DrawerFull = 14
 
+-- what an entry point answers
+abbrev pub Answer : Type 0
+Answer = Result ℕ Refusal
+
 abbrev pub said : Answer → Outcome
-said (Is v) = answer v
-said (Refused r) = refusal (number r)
+said (Ok v) = answer v
+said (Err r) = refusal (number r)

@@ -10,8 +10,8 @@ use Rattle.rules.specs.Order.{output_after, work_after}
 use Rattle.rules.specs.Drawer.{append_says, buffer_after, work_after_append}
 use Rattle.rules.proofs.Drawer.{rest, Ready, append_builds, build_answers}
 use Rattle.answers.specs.declared.Refusal.{Refusal}
-use Rattle.answers.specs.declared.Answer.{Answer}
-use Rattle.answers.specs.declared.Answer.TheVariants.{Is, Refused}
+use Rattle.answers.specs.Said.{Answer}
+use Rattle.std.specs.Prelude.{Ok, Err}
 use Rattle.answers.specs.Said.{number, said}
 use Rattle.build.specs.Builds.{Builds}
 use Rattle.append.specs.Appends.{Appends}
@@ -34,11 +34,11 @@ module _ {b : List ℕ} {u k : ℕ} (ready : Ready b u k) {c w w' o' : List ℕ}
       append_builds b u c (length w) ready
       ∙ ap (λ a. unless_refused a (λ l. answer (u + l))) (sym (rw (length-drop u b) at built.says))
 
-  pub fits : {l : ℕ} → Builds c w (take (length b - u) (drop u b)) (Is l) w' o' → u + l ≤ length b
+  pub fits : {l : ℕ} → Builds c w (take (length b - u) (drop u b)) (Ok l) w' o' → u + l ≤ length b
   fits built =
       omega (arith, ready.used, length-drop u b, (build_answers c (length w) (length (drop u b)) (sym (lent built).says)).room)
 
-  pub appended : {l : ℕ} → Builds c w (take (length b - u) (drop u b)) (Is l) w' o' → Appends b u c w (Is (u + l)) (back b u o') w'
+  pub appended : {l : ℕ} → Builds c w (take (length b - u) (drop u b)) (Ok l) w' o' → Appends b u c w (Ok (u + l)) (back b u o') w'
   unfolding buffer_after work_after_append
   appended built =
       let whole = lent built in
@@ -49,7 +49,7 @@ module _ {b : List ℕ} {u k : ℕ} (ready : Ready b u k) {c w w' o' : List ℕ}
         work = rw says whole.work;
       }
 
-  pub passed_on : {x : Refusal} → Builds c w (take (length b - u) (drop u b)) (Refused x) w' o' → Appends b u c w (Refused x) (back b u o') w'
+  pub passed_on : {x : Refusal} → Builds c w (take (length b - u) (drop u b)) (Err x) w' o' → Appends b u c w (Err x) (back b u o') w'
   unfolding output_after work_after buffer_after work_after_append
   passed_on built =
       let whole = lent built in
@@ -61,6 +61,6 @@ module _ {b : List ℕ} {u k : ℕ} (ready : Ready b u k) {c w w' o' : List ℕ}
       }
 
 -- a refusal changes nothing
-pub refused : (b : List ℕ) (u : ℕ) (c w : List ℕ) (x : Refusal) → append_says b u c (length w) ≡ refusal (number x) → Appends b u c w (Refused x) b w
+pub refused : (b : List ℕ) (u : ℕ) (c w : List ℕ) (x : Refusal) → append_says b u c (length w) ≡ refusal (number x) → Appends b u c w (Err x) b w
 unfolding buffer_after work_after_append
 refused b u c w x e = record { says = sym e; buffer = rw e; work = rw e }

@@ -1,7 +1,7 @@
 -- Document 01, "Order of checks", append: what is said, the buffer and the work afterwards, for every input.
 use Rattle.std.specs.Prelude.{◌≡◌, ℕ, List, length}
 use Rattle.rules.specs.Drawer.{append_says, buffer_after, work_after_append}
-use Rattle.answers.specs.declared.Answer.{Answer}
+use Rattle.answers.specs.Said.{Answer}
 use Rattle.answers.specs.Said.{said}
 
 -- buffer, used length, column and work; the answer; buffer and work at the end

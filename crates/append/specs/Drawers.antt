@@ -4,7 +4,7 @@ use Rattle.rules.specs.Column.{Alike}
 use Rattle.rules.specs.Bytes.{most, record_length, column_record, entries}
 use Rattle.rules.specs.Refusal.{answer}
 use Rattle.rules.specs.Drawer.{most_bytes, most_records, found, lost, find_says, hand_out, own, shared, look_says, look_part, Whence, stands, refused_by, which_says, records_in, append_says, buffer_after}
-use Rattle.answers.specs.declared.Answer.{Answer}
+use Rattle.answers.specs.Said.{Answer}
 use Rattle.drawer.specs.declared.Found.{Found}
 use Rattle.drawer.specs.declared.Whence.{Whence as Whence'}
 use Rattle.drawer.specs.Said.{said_found, said_whence}

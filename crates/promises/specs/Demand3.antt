@@ -6,7 +6,7 @@ use Rattle.rules.specs.Column.{Alike}
 use Rattle.rules.specs.Bytes.{Bytes, most, column_record}
 use Rattle.rules.specs.Refusal.{answer}
 use Rattle.rules.specs.Order.{check_says}
-use Rattle.answers.specs.declared.Answer.{Answer}
+use Rattle.answers.specs.Said.{Answer}
 use Rattle.build.specs.Builds.{Builds}
 
 -- a column that the builder accepts, with output and work large enough: at most 32,768 counts of 32 bits

@@ -12,23 +12,23 @@ use Rattle.rules.specs.Order.{check_says, stand_in_says, column_after}
 use Rattle.rules.proofs.Checked.{says_checked}
 use Rattle.answers.specs.declared.Refusal.{Refusal}
 use Rattle.answers.specs.declared.Refusal.TheVariants.{OutputShort}
-use Rattle.answers.specs.declared.Answer.TheVariants.{Is, Refused}
+use Rattle.std.specs.Prelude.{Ok, Err}
 use Rattle.answers.specs.Said.{number}
 use Rattle.stand_in.specs.StandsIn.{StandsIn, Taken}
 
-refused : (r col : List ℕ) (x : Refusal) → stand_in_says r (length col) ≡ refusal (number x) → StandsIn r col (Refused x) col
+refused : (r col : List ℕ) (x : Refusal) → stand_in_says r (length col) ≡ refusal (number x) → StandsIn r col (Err x) col
 unfolding column_after
 refused r col x e = record { says = sym e; column = rw e }
 
-pub check-refused : (r col : List ℕ) (x : Refusal) → check_says r ≡ refusal (number x) → StandsIn r col (Refused x) col
+pub check-refused : (r col : List ℕ) (x : Refusal) → check_says r ≡ refusal (number x) → StandsIn r col (Err x) col
 unfolding stand_in_says
 check-refused r col x e = refused r col x (rw e)
 
-pub room-refused : (r col : List ℕ) (n : ℕ) → check_says r ≡ answer n → length col < n → StandsIn r col (Refused OutputShort) col
+pub room-refused : (r col : List ℕ) (n : ℕ) → check_says r ≡ answer n → length col < n → StandsIn r col (Err OutputShort) col
 unfolding stand_in_says
 room-refused r col n e l = refused r col OutputShort (rw (e, lt-ltb (length col) n l))
 
-pub stands_in : {r col col' : List ℕ} {n : ℕ} → Taken r n col → col' ≡ stand_in (parens n r) ++ drop n col → StandsIn r col (Is n) col'
+pub stands_in : {r col col' : List ℕ} {n : ℕ} → Taken r n col → col' ≡ stand_in (parens n r) ++ drop n col → StandsIn r col (Ok n) col'
 unfolding stand_in_says column_after
 stands_in {r} {col} {n} taken e =
     let says : stand_in_says r (length col) ≡ answer n = rw (taken.checks, le-ltb (length col) n taken.room) in

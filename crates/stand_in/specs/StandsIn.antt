@@ -2,7 +2,7 @@
 use Rattle.std.specs.Prelude.{◌≡◌, ℕ, ◌≤◌, List, length}
 use Rattle.rules.specs.Order.{check_says, stand_in_says, column_after}
 use Rattle.rules.specs.Refusal.{answer}
-use Rattle.answers.specs.declared.Answer.{Answer}
+use Rattle.answers.specs.Said.{Answer}
 use Rattle.answers.specs.Said.{said}
 
 -- record and column; the answer; the column at the end

@@ -20,7 +20,7 @@ use Rattle.rules.proofs.Checked.{says_checked, parens-length}
 use Rattle.rules.proofs.Summary.{summary-length, summary_at, slot_end, slot-nothing, slot-leaf, slot-closing, no_end, no-leaf}
 use Rattle.answers.specs.declared.Refusal.{Refusal}
 use Rattle.answers.specs.declared.Refusal.TheVariants.{WorkShort}
-use Rattle.answers.specs.declared.Answer.TheVariants.{Is, Refused}
+use Rattle.std.specs.Prelude.{Ok, Err}
 use Rattle.answers.specs.Said.{number}
 use Rattle.summary.specs.Fills.{Fills}
 use Rattle.summary.specs.Laid.{Taken, Holds, Lays, Grows, laid, laid_to, grown_to}
@@ -112,7 +112,7 @@ held-summary s {t₀} {t} room h =
     at x l = get_or-take slots t x 0 l ∙ h.first x l ∙ sym (summary_at s x l)
 
 pub filled : {r t t₁ t₂ t₃ : List ℕ} {n : ℕ} → check_says r ≡ answer n → slots ≤ length t → Holds (λ x. none) t t₁
-    → Lays (parens n r) 0 (blocks_for n) t₁ t₂ → Grows 0 t₂ t₃ → Fills r t (Is n) t₃
+    → Lays (parens n r) 0 (blocks_for n) t₁ t₂ → Grows 0 t₂ t₃ → Fills r t (Ok n) t₃
 unfolding fill_says summary_after
 filled {r} {t} {t₁} {t₂} {t₃} {n} e room blank lays grows =
     let s = parens n r in
@@ -126,11 +126,11 @@ filled {r} {t} {t₁} {t₂} {t₃} {n} e room blank lays grows =
       summary = rw (e, le-ltb (length t) slots room, checked.framed.says) (held-summary s room whole);
     }
 
-pub refused : {r : List ℕ} (t : List ℕ) (x : Refusal) → check_says r ≡ refusal (number x) → Fills r t (Refused x) t
+pub refused : {r : List ℕ} (t : List ℕ) (x : Refusal) → check_says r ≡ refusal (number x) → Fills r t (Err x) t
 unfolding fill_says summary_after
 refused t x e = record { says = rw e; summary = rw e }
 
-pub refused-short : {r t : List ℕ} {n : ℕ} → check_says r ≡ answer n → length t < slots → Fills r t (Refused WorkShort) t
+pub refused-short : {r t : List ℕ} {n : ℕ} → check_says r ≡ answer n → length t < slots → Fills r t (Err WorkShort) t
 unfolding fill_says summary_after
 refused-short {r} {t} e h =
     record { says = rw (e, lt-ltb (length t) slots h); summary = rw (e, lt-ltb (length t) slots h) }

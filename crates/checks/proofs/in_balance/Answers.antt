@@ -7,12 +7,12 @@ use Rattle.checks.proofs.in_balance.Goals as goal
 
 pub byte-end-requires : goal.byte-end-requires
 byte-end-requires c =
-    (c.requires.0, ready_last c.args.bytes.now c.args.n c.requires.1 c.requires.2 c.bytes-front.result c.bytes-front.ensures, omega arith)
+    (ready_last c.args.bytes.now c.args.n c.requires.0 c.requires.1 c.bytes-front.result c.bytes-front.ensures, omega arith)
 
 pub returns-then-end-lt-GROUND : goal.returns-then-end-lt-GROUND
 returns-then-end-lt-GROUND c =
-    sym ((through c.args.bytes.now c.args.n c.requires.1 c.requires.2 c.bytes-front.result c.byte-end.result c.opened-tail.result c.bytes-front.ensures c.opened-tail.ensures c.byte-end.ensures).0 c.if-end-lt-GROUND.true)
+    sym ((through c.args.bytes.now c.args.n c.requires.0 c.requires.1 c.bytes-front.result c.byte-end.result c.opened-tail.result c.bytes-front.ensures c.opened-tail.ensures c.byte-end.ensures).0 c.if-end-lt-GROUND.true)
 
 pub returns : goal.returns
 returns c =
-    sym ((through c.args.bytes.now c.args.n c.requires.1 c.requires.2 c.bytes-front.result c.byte-end.result c.opened-tail.result c.bytes-front.ensures c.opened-tail.ensures c.byte-end.ensures).1 c.if-end-lt-GROUND.false)
+    sym ((through c.args.bytes.now c.args.n c.requires.0 c.requires.1 c.bytes-front.result c.byte-end.result c.opened-tail.result c.bytes-front.ensures c.opened-tail.ensures c.byte-end.ensures).1 c.if-end-lt-GROUND.false)

@@ -24,12 +24,12 @@ returns-then-n-eq0 c =
 
 pub returns-then-opens_from : goal.returns-then-opens_from
 returns-then-opens_from c =
-    sym (inside_some c.args.bytes.now c.args.n (whole c.requires.1 c.requires.2 c.if-n-bytes.false) (omega arith) c.opens_from.result c.opens_from.ensures ∙ rw c.if-opens_from.true)
+    sym (inside_some c.args.bytes.now c.args.n (whole c.requires.0 c.requires.1 c.if-n-bytes.false) (omega arith) c.opens_from.result c.opens_from.ensures ∙ rw c.if-opens_from.true)
 
 pub returns-then-in_balance : goal.returns-then-in_balance
 returns-then-in_balance c =
-    sym (inside_some c.args.bytes.now c.args.n (whole c.requires.1 c.requires.2 c.if-n-bytes.false) (omega arith) c.opens_from.result c.opens_from.ensures ∙ rw (c.if-opens_from.false, ← c.in_balance.ensures, c.if-in_balance.true))
+    sym (inside_some c.args.bytes.now c.args.n (whole c.requires.0 c.requires.1 c.if-n-bytes.false) (omega arith) c.opens_from.result c.opens_from.ensures ∙ rw (c.if-opens_from.false, ← c.in_balance.ensures, c.if-in_balance.true))
 
 pub returns : goal.returns
 returns c =
-    sym (inside_some c.args.bytes.now c.args.n (whole c.requires.1 c.requires.2 c.if-n-bytes.false) (omega arith) c.opens_from.result c.opens_from.ensures ∙ rw (c.if-opens_from.false, ← c.in_balance.ensures, c.if-in_balance.false))
+    sym (inside_some c.args.bytes.now c.args.n (whole c.requires.0 c.requires.1 c.if-n-bytes.false) (omega arith) c.opens_from.result c.opens_from.ensures ∙ rw (c.if-opens_from.false, ← c.in_balance.ensures, c.if-in_balance.false))

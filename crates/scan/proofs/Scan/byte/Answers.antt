@@ -29,8 +29,8 @@ overflow_sub-place c =
 
 pub returns-then-smallest-self : goal.returns-then-smallest-self
 returns-then-smallest-self c =
-    row-lower c.args.self c.args.at c.args.b c.requires.1 (search rules) c.shifted.ensures c.shifted-2.ensures c.shifted-then-smallest-self.ensures c.if-smallest-self.true
+    row-lower c.args.self c.args.at c.args.b c.requires.0 (search rules) c.shifted.ensures c.shifted-2.ensures c.shifted-then-smallest-self.ensures c.if-smallest-self.true
 
 pub returns : goal.returns
 returns c =
-    row_above c.args.self c.args.at c.args.b c.requires.1 (search rules) c.shifted.ensures c.shifted-2.ensures c.if-smallest-self.false
+    row_above c.args.self c.args.at c.args.b c.requires.0 (search rules) c.shifted.ensures c.shifted-2.ensures c.if-smallest-self.false

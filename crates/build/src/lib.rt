@@ -9,30 +9,30 @@ ghost use Rattle.build.specs.Builds.{Builds};
 ghost use Rattle.build.specs.Body.{Taken, Bodied};
 ghost use Rattle.build.specs.Stack.{Stacked, Keeps};
 
-use answers::{Answer, Refusal};
+use answers::Refusal;
 use pen::Pen;
 
 // The column's record at the start of the output, answered by its length; or the first refusal in
 // document 01's order. Equal entries: the leftmost counts as the smallest. Each entry is pushed once and
 // popped at most once, so the steps are in proportion to n.
-pub fn build(column: &[u32], work: &mut [u16], out: &mut [u8]) -> Answer
+pub fn build(column: &[u32], work: &mut [u16], out: &mut [u8]) -> Result<usize, Refusal>
     ensures { Builds column.now work.old out.old result work.new out.new }
 {
     let n = column.len();
     if 32768 < n {
-        return Answer::Refused(Refusal::TooManyEntries);
+        return Err(Refusal::TooManyEntries);
     }
     let size = 4 + (n + 3) / 4;
     if out.len() < size {
-        return Answer::Refused(Refusal::OutputShort);
+        return Err(Refusal::OutputShort);
     }
     if work.len() < n {
-        return Answer::Refused(Refusal::WorkShort);
+        return Err(Refusal::WorkShort);
     }
     body(column, work, out);
     head(out, n);
     clear(work, n);
-    Answer::Is(size)
+    Ok(size)
 }
 
 // The parentheses, from the last to the first, an entry a turn from the right. The first h work numbers are

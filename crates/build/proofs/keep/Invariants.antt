@@ -1,5 +1,4 @@
 -- `build::keep` meets its contract. The invariant: from k on every place's entry is a or more; k falls. Assumes nothing.
-use Prim.Native.Nat.{◌-◌}
 use Rattle.build.proofs.Popping.{Pops}
 use Rattle.build.proofs.keep.Given as goal
 

@@ -1,6 +1,5 @@
 -- `build::Pen::opens` meets its contract. The invariant: part of the run is written, and the rest has room; what is left of the run falls.
 -- Assumes nothing.
-use Prim.Native.Nat.{◌-◌}
 use Rattle.build.proofs.Writing.{Opening}
 use Rattle.build.proofs.pen.Pen.opens.Given as goal
 

@@ -3,13 +3,13 @@ ghost use Rattle.std.specs.Prelude.{◌≡◌};
 ghost use Rattle.answers.specs.Said.{number, said};
 ghost use Rattle.stayharrow.specs.Coded.{coded, accepted, refused};
 
-use answers::{Answer, Refusal};
+use answers::Refusal;
 
 // A refusal: bit 63 beside its number.
 pub fn refusal(x: Refusal) -> u64
     ensures { result ≡ refused 0 0 (number x) }
 {
-    9223372036854775808 + (answers::number_of(x) as u64)
+    9223372036854775808 + (usize::from(x) as u64)
 }
 
 // The same of the shared drawer: bit 40 too.
@@ -20,21 +20,21 @@ pub fn refusal_of_shared(x: Refusal) -> u64
 }
 
 // The number that an entry point answers, or its refusal.
-pub fn code(answer: Answer) -> u64
+pub fn code(answer: Result<usize, Refusal>) -> u64
     ensures { result ≡ coded (said answer) }
 {
     match answer {
-        Answer::Is(v) => v as u64,
-        Answer::Refused(x) => refusal(x),
+        Ok(v) => v as u64,
+        Err(x) => refusal(x),
     }
 }
 
 // 0 where nothing is refused.
-pub fn acceptance(answer: Answer) -> u64
+pub fn acceptance(answer: Result<usize, Refusal>) -> u64
     ensures { result ≡ coded (accepted (said answer)) }
 {
     match answer {
-        Answer::Is(_) => 0,
-        Answer::Refused(x) => refusal(x),
+        Ok(_) => 0,
+        Err(x) => refusal(x),
     }
 }

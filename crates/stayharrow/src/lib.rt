@@ -10,7 +10,7 @@ ghost use Rattle.rules.specs.Window.{window_says, through_says};
 ghost use Rattle.stayharrow.specs.Coded.{coded, coded_found, coded_whence, accepted};
 ghost use Rattle.stayharrow.specs.Exports.{Built, Filled, QuickAsked, StoodIn, Appended};
 
-use drawer::{Found, Whence};
+use drawer::{Denied, Drawer};
 
 mod codes;
 
@@ -62,8 +62,8 @@ pub fn stayharrow_find(drawer: &[u8], r: usize) -> u64
     ensures { result ≡ coded_found (find_says drawer.now r) }
 {
     match drawer::find(drawer, r) {
-        Found::At(at, size) => (at as u64) * 4294967296 + (size as u64),
-        Found::Refused(x) => codes::refusal(x),
+        Ok(part) => (part.at as u64) * 4294967296 + (part.size as u64),
+        Err(x) => codes::refusal(x),
     }
 }
 
@@ -73,10 +73,16 @@ pub fn stayharrow_which(own: &[u8], shared: &[u8], r: usize) -> u64
     ensures { result ≡ coded_whence (which_says own.now shared.now r) }
 {
     match drawer::which(own, shared, r) {
-        Whence::Own => 0,
-        Whence::Shared => 1,
-        Whence::OwnRefused(x) => codes::refusal(x),
-        Whence::SharedRefused(x) => codes::refusal_of_shared(x),
+        Ok(Drawer::Own) => 0,
+        Ok(Drawer::Shared) => 1,
+        Err(Denied {
+            by: Drawer::Own,
+            refusal,
+        }) => codes::refusal(refusal),
+        Err(Denied {
+            by: Drawer::Shared,
+            refusal,
+        }) => codes::refusal_of_shared(refusal),
     }
 }
 

@@ -10,18 +10,18 @@ use Rattle.stayharrow.proofs.stayharrow_find.Goals as goal
 
 pub overflow_mul-result : goal.overflow_mul-result
 overflow_mul-result c =
-    let at : let a = c.args in find_says a.drawer.now a.r ≡ found c.in-At.at c.in-At.size = sym c.find.ensures ∙ ap said_found c.in-At.is in
+    let at : let a = c.args in find_says a.drawer.now a.r ≡ found c.in-Ok.part.at c.in-Ok.part.size = sym c.find.ensures ∙ ap said_found c.in-Ok.is in
     let a = c.args in omega (arith, rw at at (has_room.find a.drawer.now a.r))
 
 pub overflow_add-result : goal.overflow_add-result
 overflow_add-result c =
-    let at : let a = c.args in find_says a.drawer.now a.r ≡ found c.in-At.at c.in-At.size = sym c.find.ensures ∙ ap said_found c.in-At.is in
+    let at : let a = c.args in find_says a.drawer.now a.r ≡ found c.in-Ok.part.at c.in-Ok.part.size = sym c.find.ensures ∙ ap said_found c.in-Ok.is in
     let a = c.args in omega (arith, rw at at (has_room.find a.drawer.now a.r))
 
-pub returns-in-At : goal.returns-in-At
-returns-in-At c =
-    let at : let a = c.args in find_says a.drawer.now a.r ≡ found c.in-At.at c.in-At.size = sym c.find.ensures ∙ ap said_found c.in-At.is in
+pub returns-in-Ok : goal.returns-in-Ok
+returns-in-Ok c =
+    let at : let a = c.args in find_says a.drawer.now a.r ≡ found c.in-Ok.part.at c.in-Ok.part.size = sym c.find.ensures ∙ ap said_found c.in-Ok.is in
     sym (ap coded_found at)
 
-pub returns-in-Refused : goal.returns-in-Refused
-returns-in-Refused c = c.refusal.ensures ∙ ap coded_found (sym (ap said_found c.in-Refused.is) ∙ c.find.ensures)
+pub returns-in-Err : goal.returns-in-Err
+returns-in-Err c = c.refusal.ensures ∙ ap coded_found (sym (ap said_found c.in-Err.is) ∙ c.find.ensures)

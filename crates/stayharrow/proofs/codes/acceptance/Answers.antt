@@ -2,5 +2,5 @@
 -- Assumes nothing.
 use Rattle.stayharrow.proofs.codes.acceptance.Goals as goal
 
-pub returns-in-Refused : goal.returns-in-Refused
-returns-in-Refused c = rw c.in-Refused.is c.refusal.ensures
+pub returns-in-Err : goal.returns-in-Err
+returns-in-Err c = rw c.in-Err.is c.refusal.ensures

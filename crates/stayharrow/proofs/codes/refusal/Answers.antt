@@ -5,4 +5,4 @@ use Rattle.stayharrow.proofs.Numbers.{number_few}
 use Rattle.stayharrow.proofs.codes.refusal.Goals as goal
 
 pub overflow_add-result : goal.overflow_add-result
-overflow_add-result c = omega (arith, c.number_of.ensures, number_few c.args.x)
+overflow_add-result c = omega (arith, c.from.ensures, number_few c.args.x)

@@ -113,26 +113,25 @@ level_below : {b h : ℕ} (l r : ℕ) → Under r h b → b ≤ 255 → l / 2 < 
 level_below l r ub last apart = omega (arith, level-bound (parent ub) last (omega arith))
 
 -- what is passed at level h
-module _ {a b l r h : ℕ} {t : List ℕ} (small : (v : ℕ) → at t v ≤ 65535) (ua : Under l h a) (ub : Under r h b)
-    (last : b ≤ 255) (apart : l / 2 < r / 2) where
-  node : (v : ℕ) → l < v → v < r → Lowest t (v * 2 ^ h) ((v + 1) * 2 ^ h) (record { low = at t v; node = v; level = h })
-  node v p q =
-      alone v h (omega (arith, level_below l r ub last apart)) (small v) (wider (omega arith) (omega arith) (between v ua ub p q))
+module _ {a b l r h : ℕ} {t : List ℕ} (ua : Under l h a) (ub : Under r h b) (last : b ≤ 255) (apart : l / 2 < r / 2) where
+  node : (v : ℕ) → at t v ≤ 65535 → l < v → v < r → Lowest t (v * 2 ^ h) ((v + 1) * 2 ^ h) (record { low = at t v; node = v; level = h })
+  node v small p q =
+      alone v h (omega (arith, level_below l r ub last apart)) small (wider (omega arith) (omega arith) (between v ua ub p q))
 
-  pass_left : Lowest t ((l + 1) * 2 ^ h) ((l / 2 + 1) * 2 ^ (h + 1)) (best_of a b (left_key t l h))
-  pass_left =
+  pass_left : at t (l + 1 - l % 2) ≤ 65535 → Lowest t ((l + 1) * 2 ^ h) ((l / 2 + 1) * 2 ^ (h + 1)) (best_of a b (left_key t l h))
+  pass_left small =
       ⊎_elim
       (λ (p : l % 2 < 1).
       let even : l + 1 - l % 2 ≡ l + 1 = omega arith in
       let same : at t (l + 1 - l % 2) ≡ at t (l + 1) = ap (at t) even in
       carried refl (doubled (l / 2 + 1) (l + 1 + 1) h (omega arith))
       (passed_left a b l h (at t (l + 1)) (left_key t l h) ua (level_below l r ub last apart) (omega arith))
-      (node (l + 1) (omega arith) (omega arith)))
+      (node (l + 1) (omega arith) (omega arith) (omega arith)))
       (λ (p : 1 ≤ l % 2). out a b (left_key t l h) (doubled (l / 2 + 1) (l + 1) h (omega arith)) (omega arith))
       (below (l % 2) 1)
 
-  pass_right : Lowest t (r / 2 * 2 ^ (h + 1)) (r * 2 ^ h) (best_of a b (right_key t r h))
-  pass_right =
+  pass_right : at t (r - r % 2) ≤ 65535 → Lowest t (r / 2 * 2 ^ (h + 1)) (r * 2 ^ h) (best_of a b (right_key t r h))
+  pass_right small =
       ⊎_elim
       (λ (p : r % 2 < 1). out a b (right_key t r h) (sym (doubled (r / 2) r h (omega arith))) (omega arith))
       (λ (p : 1 ≤ r % 2).
@@ -142,7 +141,7 @@ module _ {a b l r h : ℕ} {t : List ℕ} (small : (v : ℕ) → at t v ≤ 6553
       let under = subst (λ (w : ℕ). Under w h b) next ub in
       carried (doubled (r / 2) (r - 1) h (omega arith)) (ap (λ (w : ℕ). w * 2 ^ h) next)
       (passed_right a b (r - 1) h (at t (r - 1)) (right_key t r h) under (level_below l r ub last apart) (omega arith))
-      (node (r - 1) (omega arith) (omega arith)))
+      (node (r - 1) (omega arith) (omega arith) (omega arith)))
       (below (r % 2) 1)
 
 -- the two stay in the tree
@@ -179,9 +178,9 @@ lower-both : (k l r x y : ℕ) → k ≡ min l r → min k (min x y) ≡ min (mi
 lower-both k l r x y e = omega arith
 
 -- one level up
-climb_next : {t : List ℕ} {a b l r h k : ℕ} → b ≤ 255 → ((v : ℕ) → at t v ≤ 65535) → (l / 2 ≡ r / 2 → ⊥)
+climb_next : {t : List ℕ} {a b l r h k : ℕ} → b ≤ 255 → at t (l + 1 - l % 2) ≤ 65535 → at t (r - r % 2) ≤ 65535 → (l / 2 ≡ r / 2 → ⊥)
     → Climbing t a b l r h k → Climbing t a b (l / 2) (r / 2) (h + 1) (min k (min (left_key t l h) (right_key t r h)))
-climb_next {t} {a} {b} {l} {r} {h} {k} last small unmet c =
+climb_next {t} {a} {b} {l} {r} {h} {k} last left right unmet c =
     let p = c.apart in
     let apart : l / 2 < r / 2 = omega arith in
     let level = level_below l r c.over_b last apart in
@@ -200,18 +199,18 @@ climb_next {t} {a} {b} {l} {r} {h} {k} last small unmet c =
       right_ranked = rw up (lower_right (right_key t r h) c.right (right_rank h) (omega arith) older);
       on_left =
           join a b c.left (left_key t l h) from (widens_left l h) (omega arith) c.on_left
-          (pass_left small c.over_a c.over_b last apart);
+          (pass_left c.over_a c.over_b last apart left);
       on_right =
           join a b (right_key t r h) c.right (widens_right r h) c.over_b.first (omega arith)
-          (pass_right small c.over_a c.over_b last apart) c.on_right;
+          (pass_right c.over_a c.over_b last apart right) c.on_right;
       bound = le_trans (min-le_left k _) c.bound;
       lower = lower-both k c.left c.right (left_key t l h) (right_key t r h) c.lower;
     }
 
-pub climb_on : {t : List ℕ} {a b l r h k j : ℕ} → b ≤ 255 → ((v : ℕ) → at t v ≤ 65535) → (l / 2 ≡ r / 2 → ⊥)
+pub climb_on : {t : List ℕ} {a b l r h k j : ℕ} → b ≤ 255 → at t (l + 1 - l % 2) ≤ 65535 → at t (r - r % 2) ≤ 65535 → (l / 2 ≡ r / 2 → ⊥)
     → j ≡ min k (min (left_key t l h) (right_key t r h)) → Climbing t a b l r h k → Climbing t a b (l / 2) (r / 2) (h + 1) j
-climb_on {t} {a} {b} {l} {r} {h} last small unmet is c =
-    subst⁻¹ (Climbing t a b (l / 2) (r / 2) (h + 1)) is (climb_next last small unmet c)
+climb_on {t} {a} {b} {l} {r} {h} last left right unmet is c =
+    subst⁻¹ (Climbing t a b (l / 2) (r / 2) (h + 1)) is (climb_next last left right unmet c)
 
 -- where they have met the two sides are the whole
 pub climb_ends : {t : List ℕ} {a b l r h k : ℕ} → b ≤ 255 → l / 2 ≡ r / 2 → Climbing t a b l r h k → Between t a b (best_of a b k)

@@ -4,31 +4,25 @@
 // finds the leftmost block.
 #![tactic(auto)]
 
-ghost use Rattle.std.specs.Prelude.{◌≡◌, min, ◌+◌, ◌*◌, ◌≤◌, ◌<◌, length};
+ghost use Rattle.std.specs.Prelude.{◌≡◌, ◌+◌, ◌-◌, ◌%◌, ◌≤◌, ◌<◌};
 ghost use Rattle.tree.specs.Tree.{at, Within, Descended, Between, Over};
 ghost use Rattle.tree.specs.Keys.{key_of, left_key, right_key, best_of};
 
-// The number of node v.
-fn number(t: &[u16], v: usize) -> usize
-    requires { (896 ≤ length t.now) × (v < 512) }
-    ensures { (result ≡ at t.now v) × (result ≤ 65535) }
-{
-    t[256 + v] as usize
-}
+use slots::Summary;
 
 // The block to which a search comes down from node v, which stands level levels above the leaves: the
 // leftmost of those with the node's number. It goes to one of the node's two halves, one level fewer
 // each time.
-pub fn descend(t: &[u16], v: usize, level: usize) -> usize
-    requires { (896 ≤ length t.now) × Within v level 256 512 }
-    ensures { Descended t.now v level result }
+pub fn descend(t: Summary<'_>, v: usize, level: usize) -> usize
+    requires { Within v level 256 512 }
+    ensures { Descended t.entry.numbers.now v level result }
 {
     if level == 0 {
         return v - 256;
     }
     let left = 2 * v;
     let right = left + 1;
-    let half = if number(t, left) <= number(t, right) {
+    let half = if t.node(left) <= t.node(right) {
         left
     } else {
         right
@@ -46,35 +40,29 @@ pub struct Best {
 
 // A node's key: the smaller of two has the smaller number and, where these are equal, the smaller rank.
 // Where out is 1 the key is above that of any node. With keys the climb has no branch but its loop's.
-fn key(t: &[u16], v: usize, out: usize, rank: usize) -> usize
-    requires { (896 ≤ length t.now) × (v < 512) × (out ≤ 1) × (rank < 16) }
-    ensures { result ≡ key_of t.now v out rank }
+fn key(t: Summary<'_>, v: usize, out: usize, rank: usize) -> usize
+    requires { (v < 512) × (out ≤ 1) × (rank < 16) }
+    ensures { (result ≡ key_of t.entry.numbers.now v out rank) × (at t.entry.numbers.now v ≤ 65535) }
 {
-    16 * (number(t, v) + 65536 * out) + rank
+    16 * (t.node(v) + 65536 * out) + rank
 }
 
 // What the climb passes at node l over block a, h levels up: the right neighbour. It is out where it
 // has another parent; that parent, or one above, is passed later.
-fn left_key(t: &[u16], l: usize, h: usize) -> usize
-    requires { (896 ≤ length t.now) × (l < 511) × (h ≤ 7) }
-    ensures { result ≡ left_key t.now l h }
+fn left_key(t: Summary<'_>, l: usize, h: usize) -> usize
+    requires { (l < 511) × (h ≤ 7) }
+    ensures { (result ≡ left_key t.entry.numbers.now l h) × (at t.entry.numbers.now (l + 1 - l % 2) ≤ 65535) }
 {
     key(t, l + 1 - l % 2, l % 2, h)
 }
 
 // The same at node r over block b: the left neighbour. Here what is passed later stands further left,
 // so its rank is smaller.
-fn right_key(t: &[u16], r: usize, h: usize) -> usize
-    requires { (896 ≤ length t.now) × (r < 512) × (h ≤ 7) }
-    ensures { result ≡ right_key t.now r h }
+fn right_key(t: Summary<'_>, r: usize, h: usize) -> usize
+    requires { (r < 512) × (h ≤ 7) }
+    ensures { (result ≡ right_key t.entry.numbers.now r h) × (at t.entry.numbers.now (r - r % 2) ≤ 65535) }
 {
     key(t, r - r % 2, 1 - r % 2, 15 - h)
-}
-
-fn lower(x: usize, y: usize) -> usize
-    ensures { result ≡ min x y }
-{
-    if x <= y { x } else { y }
 }
 
 // The node with this key, passed on the way up from a or from b.
@@ -103,16 +91,16 @@ fn passed(best: usize, a: usize, b: usize) -> Best
 // The node with the smallest number among those that together cover the blocks between a and b, both
 // left out; 65,536 where there is none. The two leaves climb to where they meet, and what they pass on
 // the inner side covers those blocks. At most eight levels, two numbers read at each.
-pub fn climb(t: &[u16], a: usize, b: usize) -> Best
-    requires { (896 ≤ length t.now) × (a < b) × (b ≤ 255) }
-    ensures { Between t.now a b result }
+pub fn climb(t: Summary<'_>, a: usize, b: usize) -> Best
+    requires { (a < b) × (b ≤ 255) }
+    ensures { Between t.entry.numbers.now a b result }
 {
     let mut l = 256 + a;
     let mut r = 256 + b;
     let mut h = 0;
-    let mut best = 16 * 65536;
+    let mut best: usize = 16 * 65536;
     while l / 2 != r / 2 {
-        best = lower(best, lower(left_key(t, l, h), right_key(t, r, h)));
+        best = best.min(left_key(t, l, h).min(right_key(t, r, h)));
         l /= 2;
         r /= 2;
         h += 1;
@@ -123,11 +111,11 @@ pub fn climb(t: &[u16], a: usize, b: usize) -> Best
 // The number of the lowest node that stands over both a and b: no block from a to b has a smaller
 // one. The node's number is what the leaves 256 + a and 256 + b have in common, from the highest bit
 // down.
-pub fn over(t: &[u16], a: usize, b: usize) -> usize
-    requires { (896 ≤ length t.now) × (a ≤ 255) × (b ≤ 255) }
-    ensures { Over t.now a b result }
+pub fn over(t: Summary<'_>, a: usize, b: usize) -> usize
+    requires { (a ≤ 255) × (b ≤ 255) }
+    ensures { Over t.entry.numbers.now a b result }
 {
     let l = 256 + a;
     let level = 64 - u64::leading_zeros((l ^ (256 + b)) as u64);
-    number(t, l >> level)
+    t.node(l >> level)
 }

@@ -12,12 +12,12 @@ pub overflow_sub-level : goal.overflow_sub-level
 overflow_sub-level c = leading_le 64 (bit_xor (256 + c.args.a) (256 + c.args.b))
 
 pub overflow_shr-l : goal.overflow_shr-l
-overflow_shr-l c = omega (arith, (meets c.args.a c.args.b c.requires.1 c.requires.2).level)
+overflow_shr-l c = omega (arith, (meets c.args.a c.args.b c.requires.0 c.requires.1).level)
 
-pub number-requires : goal.number-requires
-number-requires c =
+pub node-requires : goal.node-requires
+node-requires c =
     omega (arith, div-le_self (256 + c.args.a) (2 ^ meeting c.args.a c.args.b))
 
 pub returns : goal.returns
 returns c =
-    over_both c.args.a c.args.b c.requires.1 c.requires.2 (meets c.args.a c.args.b c.requires.1 c.requires.2) c.number.ensures.0 c.number.ensures.1
+    over_both c.args.a c.args.b c.requires.0 c.requires.1 (meets c.args.a c.args.b c.requires.0 c.requires.1) c.node.ensures.0 c.node.ensures.1

@@ -3,7 +3,6 @@
 #![tactic(auto)]
 
 pub mod columns;
-pub mod compare;
 pub mod part;
 pub mod plain;
 pub mod random;

@@ -2,8 +2,6 @@
 // the greatest number. A table is then one literal, which is quicker to check than one for each row.
 ghost use Rattle.std.specs.Prelude.{◌≤◌, length};
 
-use crate::tally;
-
 #[derive(Clone, Copy)]
 pub struct Row {
     pub values: [usize; 12],
@@ -73,7 +71,7 @@ impl Row {
         while k < line.len() {
             let end = end_of(line, k, b' ');
             values[count % 12] = number(&line[k..end]);
-            count = tally::more(count);
+            count = count.saturating_add(1);
             if end == line.len() {
                 return Row { values, count };
             }

@@ -1,46 +1,45 @@
-// How many comparisons held, and how many did not.
+// What a program counts: comparisons, and what calls answered.
+use answers::Refusal;
+use std::fmt;
 
-#[derive(Clone, Copy)]
+// How many comparisons held, and how many did not.
+#[derive(Clone, Copy, Default)]
 pub struct Tally {
     pub same: usize,
     pub differ: usize,
 }
 
-// One more; the greatest number stays.
-pub fn more(n: usize) -> usize {
-    if n < 18446744073709551615 { n + 1 } else { n }
-}
-
 impl Tally {
-    pub fn new() -> Tally {
-        Tally { same: 0, differ: 0 }
-    }
-
-    pub fn of(self, holds: bool) -> Tally {
-        if holds {
-            return Tally {
-                same: more(self.same),
-                differ: self.differ,
-            };
-        }
-        Tally {
-            same: self.same,
-            differ: more(self.differ),
-        }
-    }
-
-    // Of those that are meant.
-    pub fn among(self, meant: bool, holds: bool) -> Tally {
-        if meant {
-            return self.of(holds);
-        }
-        self
+    pub fn count(&mut self, holds: bool) {
+        let counter = if holds {
+            &mut self.same
+        } else {
+            &mut self.differ
+        };
+        *counter = counter.saturating_add(1);
     }
 }
 
-// One more under a refusal's number, or under 0.
-pub fn see(seen: &mut [usize; 15], r: usize) {
-    if r < 15 {
-        seen[r] = more(seen[r]);
+impl fmt::Display for Tally {
+    fn fmt<W: fmt::Write>(&self, f: &mut fmt::Formatter<W>) -> fmt::Result {
+        write!(f, "same {}, differ {}", self.same, self.differ)
+    }
+}
+
+// How many calls answered, under 0, and how many were refused, under the refusal's number.
+#[derive(Clone, Copy, Default)]
+pub struct Seen {
+    pub counts: [usize; 15],
+}
+
+impl Seen {
+    pub fn see<T>(&mut self, said: &Result<T, Refusal>) {
+        let under = match said {
+            Ok(_) => 0,
+            Err(refusal) => usize::from(*refusal),
+        };
+        if let Some(count) = self.counts.get_mut(under) {
+            *count = count.saturating_add(1);
+        }
     }
 }

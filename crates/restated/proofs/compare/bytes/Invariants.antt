@@ -1,6 +1,0 @@
--- `compare::bytes` is safe and ends: k grows up to the length, which both have. Assumes nothing.
-use Rattle.std.proofs.Common.{◌-◌, length}
-use Rattle.restated.proofs.compare.bytes.Given as goal
-
-abbrev pub decreases-loop-k : goal.decreases-loop-k
-decreases-loop-k l = length l.a - l.k

@@ -18,7 +18,7 @@ pub fn head(bytes: &[u8]) -> usize
     requires { 4 ≤ length bytes.now }
     ensures { result ≡ entries bytes.now }
 {
-    (bytes[2] as usize) + 256 * (bytes[3] as usize)
+    usize::from(u16::from_le_bytes([bytes[2], bytes[3]]))
 }
 
 // Frame: 5 for fewer than 4 bytes, 4, 1, 5 for the rest. It answers n and reads the head alone.

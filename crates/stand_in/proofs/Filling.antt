@@ -6,8 +6,8 @@ use native.Mathlib.Nat.{zero-add}
 use native.Mathlib.Omega.{arith}
 use mathlib.Core.Bool.{true}
 use mathlib.Core.List.{List, [], ◌++◌, append-nil}
-use lib.ListN.{length, take, drop, get_or}
-use lib.Seq.{drop-cons, take-append-le, take-append-add}
+use lib.ListN.{length, take, drop, get_or, length-drop}
+use lib.Seq.{drop-cons, take-append-le, take-append-add, length-take-le, get_or-take, get_or-drop}
 use Rattle.rules.specs.Shape.{Paren}
 use Rattle.rules.specs.Excess.{closings, balanced_from, balanced}
 use Rattle.rules.specs.StandIn.{stand_in}
@@ -15,15 +15,18 @@ use Rattle.rules.specs.Bytes.{low_bits, all_bits, parens}
 use Rattle.rules.proofs.Excess.{is_balanced, counts-length}
 use Rattle.rules.proofs.StandIn.{stand_in_walk}
 use Rattle.rules.proofs.Bytes.{low_bits-length}
-use Rattle.rules.proofs.Checked.{Checked, says_checked, parens-length}
+use Rattle.rules.proofs.Checked.{Checked, parens-length}
 use Rattle.stand_in.specs.declared.Walk.{Walk}
-use Rattle.stand_in.specs.StandsIn.{Taken}
 use Rattle.stand_in.specs.Walk.{walked, written, Ready}
 use Rattle.stand_in.proofs.Walking.{Going, none_gone, ready_part, some_gone, written_all}
 
 -- ---- a record's parentheses byte by byte
 
--- those behind i whole bytes
+-- the bytes that are used whole
+abbrev whole_bytes : List ℕ → ℕ → List ℕ
+whole_bytes r n = take (4 + n / 4 - 4) (drop 4 r)
+
+-- the parentheses behind i of them
 pub left : ℕ → List ℕ → ℕ → List Paren
 left n r i = take (2 * n - 8 * i) (all_bits (drop (4 + i) r))
 
@@ -56,15 +59,11 @@ left_none n r i l = let none : 2 * n - 8 * i ≡ 0 = omega arith in rw none
 abbrev first : Walk
 first = record { excess = 0; closed = 0 }
 
--- the first i bytes are done
-pub record Filling (r : List ℕ) (n : ℕ) (col₀ : List ℕ) (w : Walk) (col : List ℕ) (i : ℕ) : Type 0 where
-  pub whole : i ≤ n / 4
-  pub going : Going first (parens n r) col₀ w (left n r i) col
+-- i whole bytes of a record are done
+abbrev pub Filling : List ℕ → ℕ → List ℕ → Walk → List ℕ → ℕ → Type 0
+Filling r n col₀ w col i = Going first (parens n r) col₀ w (left n r i) col
 
-module _ {r : List ℕ} {n : ℕ} {col₀ : List ℕ} (taken : Taken r n col₀) where
-  checked : Checked r n
-  checked = says_checked r n taken.checks
-
+module _ {r : List ℕ} {n : ℕ} (checked : Checked r n) where
   -- half of the parentheses close
   closed : closings (parens n r) ≡ n
   closed =
@@ -74,47 +73,54 @@ module _ {r : List ℕ} {n : ℕ} {col₀ : List ℕ} (taken : Taken r n col₀)
   unfolding balanced
   balance = is_balanced (parens n r) checked.balance
 
-  pub none_filled : Filling r n col₀ first col₀ 0
-  unfolding left parens
-  none_filled =
-      let all : 2 * n - 8 * 0 ≡ 2 * n = omega arith in
-      let ready : Ready first (parens n r) col₀ =
-      record { rest = []; balance = rw append-nil balance; few = rw append-nil (omega (arith, closed, checked)); room = rw append-nil (omega (arith, closed, taken)) } in
-      record { whole = omega arith; going = rw all (none_gone ready) }
+  count : length (whole_bytes r n) ≡ n / 4
+  count = length-take-le (4 + n / 4 - 4) (drop 4 r) (omega (arith, length-drop 4 r, checked)) ∙ omega arith
 
-  -- one more whole byte
-  module _ {w : Walk} {col : List ℕ} {i : ℕ} (f : Filling r n col₀ w col i) (more : i < n / 4) where
-    next : left n r i ≡ low_bits 8 (get_or r (4 + i) 0) ++ left n r (i + 1)
-    next = left_next n r i (omega (arith, checked)) (omega arith)
+  next : (i : ℕ) → i < length (whole_bytes r n) → left n r i ≡ low_bits 8 (get_or (whole_bytes r n) i 0) ++ left n r (i + 1)
+  next i more =
+      let within : i < 4 + n / 4 - 4 = omega (arith, count) in
+      let is : get_or (whole_bytes r n) i 0 ≡ get_or r (4 + i) 0 = get_or-take (4 + n / 4 - 4) (drop 4 r) i 0 within ∙ get_or-drop 4 r i 0 in
+      rw is (left_next n r i (omega (arith, checked)) (omega arith))
 
-    pub byte-ready : Ready w (low_bits 8 (get_or r (4 + i) 0)) col
-    byte-ready = ready_part (low_bits 8 (get_or r (4 + i) 0)) (left n r (i + 1)) (rw next at f.going.ready)
+  last : (i : ℕ) → length (whole_bytes r n) ≤ i → i ≤ length (whole_bytes r n) → 0 < n % 4 → left n r i ≡ low_bits (2 * (n % 4)) (get_or r (4 + n / 4) 0)
+  last i done within some =
+      let is : i ≡ n / 4 = omega (arith, count) in
+      let bits : 2 * n - 8 * (n / 4) ≡ 2 * (n % 4) = omega arith in
+      rw is (rw bits at (left_last n r (n / 4) (omega (arith, checked)) (omega arith)))
 
-    pub byte-filled : {w' : Walk} {col' : List ℕ} → w' ≡ walked w (low_bits 8 (get_or r (4 + i) 0)) → col' ≡ written w (low_bits 8 (get_or r (4 + i) 0)) col → Filling r n col₀ w' col' (i + 1)
-    byte-filled e g =
-        record { whole = omega arith; going = rw (e, g) (some_gone (low_bits 8 (get_or r (4 + i) 0)) (left n r (i + 1)) (rw next at f.going)) }
+  module _ {col₀ : List ℕ} (room : n ≤ length col₀) where
+    pub none_filled : Filling r n col₀ first col₀ 0
+    unfolding left parens
+    none_filled =
+        let all : 2 * n - 8 * 0 ≡ 2 * n = omega arith in
+        let ready : Ready first (parens n r) col₀ =
+        record { rest = []; balance = rw append-nil balance; few = rw append-nil (omega (arith, closed, checked)); room = rw append-nil (omega (arith, closed)) } in
+        rw all (none_gone ready)
 
-  -- no more parentheses
-  filled : {w : Walk} {col : List ℕ} → Going first (parens n r) col₀ w [] col → col ≡ stand_in (parens n r) ++ drop n col₀
-  unfolding written
-  filled g =
-      rw (zero-add, closed, ← (stand_in_walk (parens n r) checked.balance)) at (g.column ∙ written_all first (parens n r) col₀ balance (omega (arith, closed, taken)))
+    -- no more parentheses
+    filled : {w : Walk} {col : List ℕ} → Going first (parens n r) col₀ w [] col → col ≡ stand_in (parens n r) ++ drop n col₀
+    unfolding written
+    filled g =
+        rw (zero-add, closed, ← (stand_in_walk (parens n r) checked.balance)) at (g.column ∙ written_all first (parens n r) col₀ balance (omega (arith, closed)))
 
-  pub none_left : {w : Walk} {col : List ℕ} {i : ℕ} → Filling r n col₀ w col i → n / 4 ≤ i → n % 4 ≤ 0 → col ≡ stand_in (parens n r) ++ drop n col₀
-  none_left {i} f l z = filled (rw (left_none n r i (omega arith)) at f.going)
+  module _ {col₀ : List ℕ} {w : Walk} {col : List ℕ} {i : ℕ} (f : Filling r n col₀ w col i) where
+    -- one more whole byte
+    pub byte-ready : i < length (whole_bytes r n) → Ready w (low_bits 8 (get_or (whole_bytes r n) i 0)) col
+    byte-ready more = ready_part _ _ (rw (next i more) at f.ready)
 
-  -- the last byte
-  module _ {w : Walk} {col : List ℕ} {i : ℕ} (f : Filling r n col₀ w col i) (done : n / 4 ≤ i) (some : 0 < n % 4) where
-    last : left n r i ≡ low_bits (2 * (n % 4)) (get_or r (4 + n / 4) 0)
-    last =
-        let i-is : i ≡ n / 4 = omega (arith, f.whole) in
-        let count : 2 * n - 8 * (n / 4) ≡ 2 * (n % 4) = omega arith in
-        rw i-is (rw count at (left_last n r (n / 4) (omega (arith, checked)) (omega arith)))
+    pub byte-filled : {w' : Walk} {col' : List ℕ} → i < length (whole_bytes r n) → w' ≡ walked w (low_bits 8 (get_or (whole_bytes r n) i 0))
+        → col' ≡ written w (low_bits 8 (get_or (whole_bytes r n) i 0)) col → Filling r n col₀ w' col' (i + 1)
+    byte-filled more e g =
+        rw (e, g) (some_gone (low_bits 8 (get_or (whole_bytes r n) i 0)) (left n r (i + 1)) (rw (next i more) at f))
 
-    pub last-ready : Ready w (low_bits (2 * (n % 4)) (get_or r (4 + n / 4) 0)) col
-    last-ready = rw last at f.going.ready
+    -- what the last byte has
+    pub last-ready : length (whole_bytes r n) ≤ i → i ≤ length (whole_bytes r n) → 0 < n % 4 → Ready w (low_bits (2 * (n % 4)) (get_or r (4 + n / 4) 0)) col
+    last-ready done within some = rw (last i done within some) at f.ready
 
-    pub last-filled : {col' : List ℕ} → col' ≡ written w (low_bits (2 * (n % 4)) (get_or r (4 + n / 4) 0)) col → col' ≡ stand_in (parens n r) ++ drop n col₀
-    last-filled g =
-        let s : List Paren = low_bits (2 * (n % 4)) (get_or r (4 + n / 4) 0) in
-        rw g (filled (some_gone s [] (rw append-nil (rw last at f.going))))
+    module _ (room : n ≤ length col₀) (done : length (whole_bytes r n) ≤ i) (within : i ≤ length (whole_bytes r n)) where
+      pub last-filled : {col' : List ℕ} → 0 < n % 4 → col' ≡ written w (low_bits (2 * (n % 4)) (get_or r (4 + n / 4) 0)) col → col' ≡ stand_in (parens n r) ++ drop n col₀
+      last-filled some g =
+          rw g (filled room (some_gone (low_bits (2 * (n % 4)) (get_or r (4 + n / 4) 0)) [] (rw append-nil (rw (last i done within some) at f))))
+
+      pub none_left : n % 4 ≤ 0 → col ≡ stand_in (parens n r) ++ drop n col₀
+      none_left z = filled room (rw (left_none n r i (omega (arith, count))) at f)

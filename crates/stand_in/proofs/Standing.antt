@@ -1,7 +1,7 @@
 -- From what the record check says to the contract of `stand_in`.
 -- Assumes nothing.
 use mathlib.Core.Path.{◌≡◌, sym}
-use Prim.Native.Nat.{ℕ, ◌<◌}
+use Prim.Native.Nat.{ℕ, ◌≤◌, ◌<◌}
 use mathlib.Core.List.{List, ◌++◌}
 use borrow.Author.Tests.{lt-ltb, le-ltb}
 use lib.ListN.{length, drop}
@@ -14,7 +14,7 @@ use Rattle.answers.specs.declared.Refusal.{Refusal}
 use Rattle.answers.specs.declared.Refusal.TheVariants.{OutputShort}
 use Rattle.std.specs.Prelude.{Ok, Err}
 use Rattle.answers.specs.Said.{number}
-use Rattle.stand_in.specs.StandsIn.{StandsIn, Taken}
+use Rattle.stand_in.specs.StandsIn.{StandsIn}
 
 refused : (r col : List ℕ) (x : Refusal) → stand_in_says r (length col) ≡ refusal (number x) → StandsIn r col (Err x) col
 unfolding column_after
@@ -28,8 +28,8 @@ pub room-refused : (r col : List ℕ) (n : ℕ) → check_says r ≡ answer n �
 unfolding stand_in_says
 room-refused r col n e l = refused r col OutputShort (rw (e, lt-ltb (length col) n l))
 
-pub stands_in : {r col col' : List ℕ} {n : ℕ} → Taken r n col → col' ≡ stand_in (parens n r) ++ drop n col → StandsIn r col (Ok n) col'
+pub stands_in : {r col col' : List ℕ} {n : ℕ} → check_says r ≡ answer n → n ≤ length col → col' ≡ stand_in (parens n r) ++ drop n col → StandsIn r col (Ok n) col'
 unfolding stand_in_says column_after
-stands_in {r} {col} {n} taken e =
-    let says : stand_in_says r (length col) ≡ answer n = rw (taken.checks, le-ltb (length col) n taken.room) in
-    record { says = sym says; column = rw (says, (says_checked r n taken.checks).framed.says) e }
+stands_in {r} {col} {n = n} accepted room e =
+    let says : stand_in_says r (length col) ≡ answer n = rw (accepted, le-ltb (length col) n room) in
+    record { says = sym says; column = rw (says, (says_checked r n accepted).framed.says) e }

@@ -74,10 +74,12 @@ next_is w (suc m) {s} r =
     let k = kept_is w.excess (opening ∷ s ++ r.rest) r.balance in
     record { within = omega (arith, k.last, r.room); small = omega (arith, k.last, r.few); above = omega arith }
 
-pub next : (k b : ℕ) {w : Walk} {col : List ℕ} → 0 < k → Ready w (low_bits k b) col → Next w (b % 2) col
+-- with k of a byte's bits passed, and b the rest of the byte
+pub next : (count k b : ℕ) {w : Walk} {col : List ℕ} → k < count → Ready w (low_bits (count - k) b) col → Next w (b % 2) col
 unfolding low_bits
-next zero b l r = absurd (omega arith)
-next (suc k) b {w} l r = next_is w (b % 2) r
+next count k b {w} {col} l r =
+    let e : count - k ≡ suc (count - (k + 1)) = omega arith in
+    next_is w (b % 2) {s = low_bits (count - (k + 1)) (b / 2)} (rw e at r)
 
 abbrev bit_walk : Walk → ℕ → Walk
 bit_walk w m = record { excess = w.excess + m - (1 - m); closed = w.closed + (1 - m) }
@@ -93,19 +95,21 @@ after_bit w (suc m) l =
     let k : w.closed + (1 - suc m) ≡ w.closed = omega arith in
     rw (e, k)
 
-pub bit_gone : (k b : ℕ) {w₀ w : Walk} {s₀ : List Paren} {col₀ col : List ℕ} → 0 < k → Going w₀ s₀ col₀ w (low_bits k b) col
-    → Going w₀ s₀ col₀ (bit_walk w (b % 2)) (low_bits (k - 1) (b / 2)) (set col w.closed (bit_walk w (b % 2)).excess)
+pub bit_gone : (count k b : ℕ) {w₀ w : Walk} {s₀ : List Paren} {col₀ col : List ℕ} → k < count → Going w₀ s₀ col₀ w (low_bits (count - k) b) col
+    → Going w₀ s₀ col₀ (bit_walk w (b % 2)) (low_bits (count - (k + 1)) (b / 2)) (set col w.closed (bit_walk w (b % 2)).excess)
 unfolding low_bits
-bit_gone zero b l g = absurd (omega arith)
-bit_gone (suc k) b {w₀} {w} {s₀} {col₀} {col} l g =
-    let e : suc k - 1 ≡ k = omega arith in
-    rw e (subst (λ (v : Walk). Going w₀ s₀ col₀ v (low_bits k (b / 2)) (set col w.closed v.excess)) (after_bit w (b % 2) (omega arith)) (one_gone g))
+bit_gone count k b {w₀} {w} {s₀} {col₀} {col} l g =
+    let j : ℕ = count - (k + 1) in
+    let e : count - k ≡ suc j = omega arith in
+    subst (λ (v : Walk). Going w₀ s₀ col₀ v (low_bits j (b / 2)) (set col w.closed v.excess)) (after_bit w (b % 2) (omega arith)) (one_gone (rw e at g))
 
-pub all_gone : (k b : ℕ) {w₀ w : Walk} {s₀ : List Paren} {col₀ col : List ℕ} → k ≤ 0 → Going w₀ s₀ col₀ w (low_bits k b) col
+pub all_gone : (count k b : ℕ) {w₀ w : Walk} {s₀ : List Paren} {col₀ col : List ℕ} → count ≤ k → Going w₀ s₀ col₀ w (low_bits (count - k) b) col
     → (w ≡ walked w₀ s₀) × (col ≡ written w₀ s₀ col₀)
 unfolding low_bits walked written
-all_gone zero b l g = (g.walk, g.column)
-all_gone (suc k) b l g = absurd (omega arith)
+all_gone count k b {w₀} {w} {s₀} {col₀} {col} l g =
+    let e : count - k ≡ 0 = omega arith in
+    let h : Going w₀ s₀ col₀ w [] col = rw e at g in
+    (h.walk, h.column)
 
 -- ---- some parentheses after others
 

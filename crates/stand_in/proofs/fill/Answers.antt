@@ -1,59 +1,38 @@
--- `stand_in::fill` meets its contract. The loop's invariant: the first i bytes are done.
+-- `stand_in::fill` meets its contract. The loop's invariant: the first whole bytes are done.
 -- Assumes nothing.
-use mathlib.Core.Path.{◌∙◌}
 use native.Mathlib.Omega.{arith}
-use Rattle.rules.proofs.Checked.{says_checked}
+use Rattle.rules.proofs.Checked.{Checked, says_checked}
+use Rattle.checks.specs.declared.record.Record.{Record}
 use Rattle.stand_in.proofs.Filling.{none_filled, byte-ready, byte-filled, none_left, last-ready, last-filled}
 use Rattle.stand_in.proofs.fill.Goals as goal
 
-pub loop-i-init : goal.loop-i-init
-loop-i-init c = none_filled c.requires
+is : (r : Record) → Checked r.bytes.now r.entries
+is r = says_checked r.bytes.now r.entries r.accepted
 
-pub overflow_add-i : goal.overflow_add-i
-overflow_add-i c = omega arith
+pub slice_bounds-whole-end : goal.slice_bounds-whole-end
+slice_bounds-whole-end c = omega (arith, is c.args.checked)
 
-pub bounds-bytes-i : goal.bounds-bytes-i
-bounds-bytes-i c =
-    omega (arith, says_checked c.args.bytes.now c.args.n c.requires.checks)
+pub loop-b-init : goal.loop-b-init
+loop-b-init c = none_filled (is c.args.checked) c.requires
 
 pub bits-walk-requires : goal.bits-walk-requires
-bits-walk-requires c =
-    byte-ready c.requires c.loop-i.invariant c.loop-i-test.true
+bits-walk-requires c = byte-ready (is c.args.checked) c.loop-b.invariant c.loop-b-test.true
 
-pub overflow_add-i-in-loop-i : goal.overflow_add-i-in-loop-i
-overflow_add-i-in-loop-i c = omega arith
+pub loop-b-preserved : goal.loop-b-preserved
+loop-b-preserved c =
+    byte-filled (is c.args.checked) c.loop-b.invariant c.loop-b-test.true c.bits-walk.ensures.0 c.bits-walk.ensures.1
 
-pub loop-i-smaller : goal.loop-i-smaller
-loop-i-smaller c = omega arith
-
-pub loop-i-preserved : goal.loop-i-preserved
-loop-i-preserved c =
-    byte-filled c.requires c.loop-i.invariant c.loop-i-test.true c.bits-walk.ensures.0 c.bits-walk.ensures.1
-
-pub overflow_add-whole : goal.overflow_add-whole
-overflow_add-whole c = omega arith
-
-pub bounds-bytes-whole : goal.bounds-bytes-whole
-bounds-bytes-whole c =
-    omega (arith, says_checked c.args.bytes.now c.args.n c.requires.checks)
-
-pub overflow_mul-n : goal.overflow_mul-n
-overflow_mul-n c = omega arith
+pub bounds-checked-last : goal.bounds-checked-last
+bounds-checked-last c = omega (arith, is c.args.checked)
 
 pub bits-requires : goal.bits-requires
 bits-requires c =
-    last-ready c.requires c.loop-i.invariant c.loop-i-test.false (omega arith)
-
-pub shape_of-column-then-n-gt0 : goal.shape_of-column-then-n-gt0
-shape_of-column-then-n-gt0 c = c.bits.auto.column ∙ c.loop-i.invariant.going.same
+    last-ready (is c.args.checked) c.loop-b.invariant c.loop-b-test.false c.loop-b.auto.b-index-end c.if-n-gt0.true
 
 pub returns-then-n-gt0 : goal.returns-then-n-gt0
 returns-then-n-gt0 c =
-    last-filled c.requires c.loop-i.invariant c.loop-i-test.false (omega arith) c.bits.ensures.1
-
-pub shape_of-column-else-n-gt0 : goal.shape_of-column-else-n-gt0
-shape_of-column-else-n-gt0 c = c.loop-i.invariant.going.same
+    last-filled (is c.args.checked) c.loop-b.invariant c.requires c.loop-b-test.false c.loop-b.auto.b-index-end c.if-n-gt0.true c.bits.ensures.1
 
 pub returns-else-n-gt0 : goal.returns-else-n-gt0
 returns-else-n-gt0 c =
-    none_left c.requires c.loop-i.invariant c.loop-i-test.false (omega arith)
+    none_left (is c.args.checked) c.loop-b.invariant c.requires c.loop-b-test.false c.loop-b.auto.b-index-end c.if-n-gt0.false

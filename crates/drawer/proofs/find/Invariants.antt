@@ -1,13 +1,9 @@
 -- `drawer::find` meets its contract. The loop's invariant: what is sought from this place on, with the records left to pass, is what find
--- says. The measure is what is left of the drawer. Assumes nothing.
+-- says. Assumes nothing.
 use mathlib.Core.Path.{◌≡◌}
-use Prim.Native.Nat.{◌-◌, ◌≤◌}
-use lib.ListN.{length}
+use Prim.Native.Nat.{◌-◌}
 use Rattle.rules.specs.Drawer.{seek, find_says}
 use Rattle.drawer.proofs.find.Given as goal
 
-abbrev pub invariant-loop-at : goal.invariant-loop-at
-invariant-loop-at l = (l.at ≤ length l.drawer) × (seek l.drawer l.left l.at ≡ find_says l.drawer l.r)
-
-abbrev pub decreases-loop-at : goal.decreases-loop-at
-decreases-loop-at l = length l.drawer - l.at
+abbrev pub invariant-loop : goal.invariant-loop
+invariant-loop l = seek l.drawer (l.r - l.counter) l.at ≡ find_says l.drawer l.r

@@ -1,34 +1,28 @@
 -- `drawer::look` meets its contract: what was chosen lies within the drawer that it names.
 -- Assumes nothing.
-use mathlib.Core.Path.{◌≡◌, sym, ap, ◌∙◌}
-use native.Mathlib.Omega.{arith}
-use Rattle.rules.specs.Drawer.{own, shared, part, look_says}
-use Rattle.rules.proofs.Drawer.{found_within, look-found}
-use Rattle.drawer.specs.Said.{said_choice}
+use mathlib.Core.Path.{◌≡◌, refl, sym}
+use Prim.Native.Nat.{ℕ, ◌+◌, ◌≤◌}
+use mathlib.Core.List.{List}
+use lib.ListN.{length, take, drop}
+use Rattle.rules.specs.Drawer.{part, look_part}
+use Rattle.rules.proofs.Drawer.{found_within, Found_in, look-found}
+use Rattle.drawer.specs.declared.Drawer.{Drawer}
+use Rattle.drawer.specs.declared.Drawer.TheVariants.{Own, Shared}
+use Rattle.drawer.specs.Said.{said_drawer, the_one}
 use Rattle.drawer.proofs.look.Goals as goal
+
+within : (w : Drawer) (d s : List ℕ) (r p l : ℕ) → Found_in d s r (part (said_drawer w) p l) → p + l ≤ length (the_one w d s)
+within Own d s r p l e = (found_within d r p l e).within
+within Shared d s r p l e = (found_within s r p l e).within
+
+part_is : (w : Drawer) (d s : List ℕ) (p l : ℕ) → take l (drop p (the_one w d s)) ≡ look_part d s (part (said_drawer w) p l)
+part_is Own d s p l = refl
+part_is Shared d s p l = refl
 
 pub part-requires : goal.part-requires
 part-requires c =
-    let in-own : look_says c.args.own.now c.args.shared.now c.args.r ≡ part own c.in-Own.at c.in-Own.size = sym c.choose.ensures ∙ ap said_choice c.in-Own.is in
-    omega (arith, found_within _ _ _ _ (rw in-own at (look-found c.args.own.now c.args.shared.now c.args.r)))
+    rw c.of.ensures (within c.in-Ok.choice.from _ _ c.args.r _ _ (rw (sym c.in-Ok.ensures) at (look-found c.args.own.now c.args.shared.now c.args.r)))
 
-pub part-requires-in-Shared : goal.part-requires-in-Shared
-part-requires-in-Shared c =
-    let in-shared : look_says c.args.own.now c.args.shared.now c.args.r ≡ part shared c.in-Shared.at c.in-Shared.size = sym c.choose.ensures ∙ ap said_choice c.in-Shared.is in
-    omega (arith, found_within _ _ _ _ (rw in-shared at (look-found c.args.own.now c.args.shared.now c.args.r)))
-
-pub returns-in-Own : goal.returns-in-Own
-returns-in-Own c =
-    let in-own : look_says c.args.own.now c.args.shared.now c.args.r ≡ part own c.in-Own.at c.in-Own.size = sym c.choose.ensures ∙ ap said_choice c.in-Own.is in
-    rw in-own c.part.ensures
-
-pub returns-in-Shared : goal.returns-in-Shared
-returns-in-Shared c =
-    let in-shared : look_says c.args.own.now c.args.shared.now c.args.r ≡ part shared c.in-Shared.at c.in-Shared.size = sym c.choose.ensures ∙ ap said_choice c.in-Shared.is in
-    rw in-shared c.part-in-Shared.ensures
-
-pub returns-in-OwnRefused : goal.returns-in-OwnRefused
-returns-in-OwnRefused c = rw (sym c.choose.ensures ∙ ap said_choice c.in-OwnRefused.is)
-
-pub returns-in-SharedRefused : goal.returns-in-SharedRefused
-returns-in-SharedRefused c = rw (sym c.choose.ensures ∙ ap said_choice c.in-SharedRefused.is)
+pub returns-in-Ok : goal.returns-in-Ok
+returns-in-Ok c =
+    rw (← c.in-Ok.ensures, c.part.ensures, c.of.ensures) (part_is c.in-Ok.choice.from c.args.own.now c.args.shared.now c.in-Ok.choice.place.at c.in-Ok.choice.place.size)

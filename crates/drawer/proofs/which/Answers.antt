@@ -1,20 +1,16 @@
 -- `drawer::which` meets its contract: it says of the choice which drawer made it.
 -- Assumes nothing.
-use Rattle.rules.specs.Drawer.{which_says}
+use mathlib.Core.Path.{ap}
+use Rattle.std.proofs.lemmas.Result.{err_from_is_err_and}
+use Rattle.rules.specs.Drawer.{whence, which_says}
 use Rattle.drawer.proofs.which.Goals as goal
 
-pub returns-in-Own : goal.returns-in-Own
+pub returns-in_err-choose : goal.returns-in_err-choose
 unfolding which_says
-returns-in-Own c = rw (← c.choose.ensures, c.in-Own.is)
+returns-in_err-choose c =
+    let p = err_from_is_err_and c.from_residual.result c.from_residual.ensures.1 in
+    rw (p.1, p.2) (ap whence c.in_err-choose.ensures)
 
-pub returns-in-Shared : goal.returns-in-Shared
+pub returns : goal.returns
 unfolding which_says
-returns-in-Shared c = rw (← c.choose.ensures, c.in-Shared.is)
-
-pub returns-in-OwnRefused : goal.returns-in-OwnRefused
-unfolding which_says
-returns-in-OwnRefused c = rw (← c.choose.ensures, c.in-OwnRefused.is)
-
-pub returns-in-SharedRefused : goal.returns-in-SharedRefused
-unfolding which_says
-returns-in-SharedRefused c = rw (← c.choose.ensures, c.in-SharedRefused.is)
+returns c = ap whence c.in_ok-choose.ensures

@@ -5,7 +5,9 @@ use mathlib.Core.Logic.{⊎_elim}
 use Prim.Native.Nat.{ℕ, zero, suc, min, ◌+◌, ◌-◌, ◌*◌, ◌/◌, ◌≤◌, ◌<◌}
 use native.Mathlib.Decide.{dec_lt}
 use native.Mathlib.Omega.{arith}
+use mathlib.Core.Bool.{Bool, true, false}
 use mathlib.Core.List.{List}
+use mir.Val.{bool_byte as from_bool}
 use lib.ListN.{take, get_or}
 use Rattle.rules.specs.Shape.{Paren}
 use Rattle.rules.specs.Excess.{closings, closing_place, excess}
@@ -78,15 +80,17 @@ module _ {t : List ℕ} {s : List Paren} {n : ℕ} (own : Own t s n) where
     upto k h p = omega (arith, closing-among s i (256 * (k + 1)) (omega (arith, end_at k h)))
 
     -- one of three blocks, and it is not passed
-    pub stands-near : (a b c r : ℕ) → Passed t i (get_or t (768 + i / 256) 0) a → Passed t i (get_or t (768 + i / 256) 0 + 1) b
-        → r ≡ get_or t (768 + i / 256) 0 + a + b → r + 1 < blocks_for n → Passed t i r c → c ≡ 0 → closing_place s i / 256 ≡ r
+    pub stands-near : (a b c : Bool) (r : ℕ) → Passed t i (get_or t (768 + i / 256) 0) a → Passed t i (get_or t (768 + i / 256) 0 + 1) b
+        → r ≡ get_or t (768 + i / 256) 0 + from_bool a + from_bool b → r + 1 < blocks_for n → Passed t i r c → c ≡ false → closing_place s i / 256 ≡ r
     stands-near a b c r pa pb e h pc z =
-        omega (arith, lower (dec_lt 0 b) (dec_lt 0 a), upto r h (pc.ahead z))
+        omega (arith, lower a b pa pb e, upto r h (pc.ahead z))
       where
-        lower : Dec (0 < b) → Dec (0 < a) → r ≤ closing_place s i / 256
-        lower (yes y) x = omega (arith, behind (get_or t (768 + i / 256) 0 + 1) (omega arith) (pb.behind y), pa.few, pb.few)
-        lower (no n) (yes x) = omega (arith, behind (get_or t (768 + i / 256) 0) (omega arith) (pa.behind x), pa.few)
-        lower (no n) (no m) = omega (arith, from_first)
+        lower : (a b : Bool) → Passed t i (get_or t (768 + i / 256) 0) a → Passed t i (get_or t (768 + i / 256) 0 + 1) b
+            → r ≡ get_or t (768 + i / 256) 0 + from_bool a + from_bool b → r ≤ closing_place s i / 256
+        lower true true pa pb e = omega (arith, behind (get_or t (768 + i / 256) 0 + 1) (omega arith) (pb.behind refl))
+        lower false true pa pb e = omega (arith, behind (get_or t (768 + i / 256) 0 + 1) (omega arith) (pb.behind refl))
+        lower true false pa pb e = omega (arith, behind (get_or t (768 + i / 256) 0) (omega arith) (pa.behind refl))
+        lower false false pa pb e = omega (arith, from_first)
 
     -- the block that the search stops at
     pub stands_in : (last r : ℕ) → Last t (blocks_for n) (get_or t (768 + i / 256) 0) (i / 256) last → Stops t i (get_or t (768 + i / 256) 0) last r → closing_place s i / 256 ≡ r

@@ -1,5 +1,5 @@
 -- Where a closing stands among some bits, and how a word of them is narrowed down to it.
-use Rattle.std.specs.Prelude.{◌≡◌, ℕ, zero, suc, ◌+◌, ◌*◌, ◌/◌, ◌^◌, ◌≤◌, ◌<◌, cond, List, ltb, length}
+use Rattle.std.specs.Prelude.{◌≡◌, ℕ, zero, suc, ◌+◌, ◌*◌, ◌/◌, ◌^◌, ◌≤◌, ◌<◌, cond, List, ltb, length, Option, MatchOption}
 use Rattle.rules.specs.Shape.{Paren}
 use Rattle.rules.specs.Excess.{closings, closing_place}
 use Rattle.rules.specs.Bytes.{low_bits}
@@ -8,6 +8,10 @@ use Rattle.blocks.specs.declared.byte.Narrow.{Narrow}
 -- the place of closing number k, or the end where there are not so many
 unfoldable pub select_of : List Paren → ℕ → ℕ
 select_of s k = cond (ltb k (closings s)) (closing_place s k) (length s)
+
+-- r is that place, none where there are not so many
+abbrev pub Selects : List Paren → ℕ → Option ℕ → Type 0
+Selects s k r = MatchOption r (closings s ≤ k) (λ p. (k < closings s) × (p ≡ select_of s k))
 
 -- the number whose n bytes are a 0, a 1, .. , a (n - 1), lowest first
 unfoldable pub joined : ℕ → (ℕ → ℕ) → ℕ

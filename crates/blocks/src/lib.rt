@@ -6,45 +6,44 @@
 pub mod byte;
 pub mod word;
 
-ghost use Rattle.std.specs.Prelude.{◌≡◌, ◌+◌, ◌*◌, ◌≤◌, ◌<◌, length, drop};
+ghost use Rattle.std.specs.Prelude.{◌*◌, ◌≤◌, ◌<◌, length};
 ghost use Rattle.rules.specs.Bytes.{all_bits};
-ghost use Rattle.blocks.specs.Select.{select_of};
+ghost use Rattle.blocks.specs.Select.{Selects};
 ghost use Rattle.blocks.specs.Search.{Passed, Stops, Last, StandsIn, Before};
 
 use byte::Narrow;
+use slots::Summary;
 
-// The place of closing number k among the bits of these bytes from byte at on, one byte after the other.
-fn rest(part: &[u8], at: usize, k: usize) -> usize
-    requires { (at ≤ length part.now) × (8 * length part.now ≤ 1048576) }
-    ensures { result ≡ 8 * at + select_of (all_bits (drop at part.now)) k }
+// The place of closing number k among the bits of these bytes, one byte after the other; none where there
+// are not so many closings.
+fn rest(part: &[u8], k: usize) -> Option<usize>
+    requires { 8 * length part.now ≤ 1048576 }
+    ensures { Selects (all_bits part.now) k result }
 {
-    let mut m = at;
     let mut left = k;
-    while m < part.len() {
+    for (m, &b) in part.iter().enumerate() {
         let n = Narrow {
-            bits: part[m] as u64,
+            bits: u64::from(b),
             k: left,
             at: 8 * m,
         };
         let c = byte::count_eight(n.bits);
         if left < c {
-            return byte::nth(n);
+            return Some(byte::nth(n));
         }
         left -= c;
-        m += 1;
     }
-    8 * m
+    None
 }
 
-// The place of closing number k among the bits of these bytes, or the number of bits where there are not
-// so many closings: eight bytes at a time, then those that are left.
-pub fn select(part: &[u8], k: usize) -> usize
+// The same eight bytes at a time, then in those that are left.
+pub fn select(part: &[u8], k: usize) -> Option<usize>
     requires { 8 * length part.now ≤ 1048576 }
-    ensures { result ≡ select_of (all_bits part.now) k }
+    ensures { Selects (all_bits part.now) k result }
 {
-    let mut at = 0;
     let mut left = k;
-    while at + 8 <= part.len() {
+    for m in 0..part.len() / 8 {
+        let at = 8 * m;
         let bits = words::word(part, at);
         let sums = word::sums(bits);
         let c = (sums >> 56) as usize;
@@ -54,41 +53,38 @@ pub fn select(part: &[u8], k: usize) -> usize
                 k: left,
                 at: 8 * at,
             };
-            return byte::nth(word::to_byte(n, sums));
+            return Some(byte::nth(word::to_byte(n, sums)));
         }
         left -= c;
-        at += 8;
     }
-    rest(part, at, left)
+    let behind = part.len() - part.len() % 8;
+    let x = rest(&part[behind..], left)?;
+    Some(8 * behind + x)
 }
 
-// 1 where no more than i closings stand up to the end of block b, else 0: there are (256(b + 1) - t[b]) / 2
-// of them, and nothing is subtracted.
-fn passed(t: &[u16], i: usize, b: usize) -> usize
-    requires { (b ≤ 256) × (b < length t.now) × (i < 32768) }
-    ensures { Passed t.now i b result }
+// Whether no more than i closings stand up to the end of block b: there are (256(b + 1) - t[b]) / 2 of
+// them, and nothing is subtracted.
+fn passed(t: Summary<'_>, i: usize, b: usize) -> bool
+    requires { (b ≤ 256) × (i < 32768) }
+    ensures { Passed t.entry.numbers.now i b result }
 {
-    if 256 * (b + 1) <= 2 * i + (t[b] as usize) {
-        1
-    } else {
-        0
-    }
+    256 * (b + 1) <= 2 * i + t.end(b)
 }
 
 // The first block from one up to another behind which more than i closings stand, where the closings
 // up to the ends of the blocks never fall; some block between in any case.
-fn search(t: &[u16], i: usize, from: usize, to: usize) -> usize
-    requires { (from ≤ to) × (to ≤ 256) × (to < length t.now) × (i < 32768) }
-    ensures { Stops t.now i from to result }
+fn search(t: Summary<'_>, i: usize, from: usize, to: usize) -> usize
+    requires { (from ≤ to) × (to ≤ 256) × (i < 32768) }
+    ensures { Stops t.entry.numbers.now i from to result }
 {
     let mut lo = from;
     let mut hi = to;
     while lo < hi {
         let mid = (lo + hi) / 2;
-        if passed(t, i, mid) == 0 {
-            hi = mid;
-        } else {
+        if passed(t, i, mid) {
             lo = mid + 1;
+        } else {
+            hi = mid;
         }
     }
     lo
@@ -96,50 +92,41 @@ fn search(t: &[u16], i: usize, from: usize, to: usize) -> usize
 
 // A block behind which no closing before number 256(q + 1) stands: that one's, where slot 769 + q names a
 // block from first on, else the last there is.
-fn last(t: &[u16], blocks: usize, first: usize, q: usize) -> usize
-    requires { (896 ≤ length t.now) × (first < blocks) × (q < 128) }
-    ensures { Last t.now blocks first q result }
+fn last(t: Summary<'_>, blocks: usize, first: usize, q: usize) -> usize
+    requires { (first < blocks) × (q < 128) }
+    ensures { Last t.entry.numbers.now blocks first q result }
 {
     if q < 127 {
-        let next = t[769 + q] as usize;
-        if first <= next {
-            if next < blocks {
-                return next;
-            }
+        let next = t.block_of(q + 1);
+        if first <= next && next < blocks {
+            return next;
         }
     }
     blocks - 1
 }
 
-// The block in which closing number i stands. Where the summary names a block that is not there it says
-// that number. Most often it is one of three, told by two ends that are read side by side; else it is
-// searched for.
-pub fn block(t: &[u16], blocks: usize, i: usize) -> usize
-    requires { (896 ≤ length t.now) × (blocks ≤ 256) × (i < 32768) }
-    ensures { StandsIn t.now blocks i result }
+// The block in which closing number i stands; none where the summary names a block that is not there. Most
+// often it is one of three, told by two ends that are read side by side; else it is searched for.
+pub fn block(t: Summary<'_>, blocks: usize, i: usize) -> Option<usize>
+    requires { (blocks ≤ 256) × (i < 32768) }
+    ensures { StandsIn t.entry.numbers.now blocks i result }
 {
     let q = i / 256;
-    let first = t[768 + q] as usize;
+    let first = t.block_of(q);
     if blocks <= first {
-        return first;
+        return None;
     }
-    let b = first + passed(t, i, first) + passed(t, i, first + 1);
-    if b + 1 < blocks {
-        if passed(t, i, b) == 0 {
-            return b;
-        }
+    let b = first + usize::from(passed(t, i, first)) + usize::from(passed(t, i, first + 1));
+    if b + 1 < blocks && !passed(t, i, b) {
+        return Some(b);
     }
-    search(t, i, first, last(t, blocks, first, q))
+    Some(search(t, i, first, last(t, blocks, first, q)))
 }
 
 // The excess before block k.
-pub fn before(t: &[u16], k: usize) -> usize
-    requires { k < length t.now }
-    ensures { Before t.now k result }
+pub fn before(t: Summary<'_>, k: usize) -> usize
+    requires { k < length t.numbers.now }
+    ensures { Before t.entry.numbers.now k result }
 {
-    if k == 0 {
-        return 0;
-    }
-    let last = k - 1;
-    t[last] as usize
+    if k == 0 { 0 } else { t.end(k - 1) }
 }

@@ -14,7 +14,7 @@ pub struct Summary<'a> {
 impl<'a> Summary<'a> {
     // The excess behind block k.
     pub fn end(self, k: usize) -> usize
-        requires { k < 256 }
+        requires { k < length self.numbers.now }
         ensures { (result ≡ get_or self.entry.numbers.now k 0) × (result ≤ 65535) }
     {
         self.numbers[k] as usize

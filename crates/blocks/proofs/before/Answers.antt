@@ -1,18 +1,13 @@
 -- `blocks::before` meets its contract.
 -- Assumes nothing.
-use mathlib.Core.Path.{refl}
-use native.Mathlib.Nat.{lt_of_lt_of_le}
-use lib.Dec.{lit≤}
+use mathlib.Core.Path.{◌∙◌}
 use Rattle.blocks.proofs.Standing.{before_right}
 use Rattle.blocks.proofs.before.Goals as goal
 
-pub overflow_cast-result : goal.overflow_cast-result
-overflow_cast-result c = record { fits = lt_of_lt_of_le (c.type_inv.t _).fits (lit≤ tt) }
-
-pub returns : goal.returns
-returns c =
+pub returns-else-k-eq0 : goal.returns-else-k-eq0
+returns-else-k-eq0 c =
     record {
       first = λ e. absurd (c.if-k-eq0.false e);
-      later = λ h. refl;
-      right = λ s n own h l. before_right own c.args.k h l;
+      later = λ h. c.end.ensures.0;
+      right = λ s n own h l. c.end.ensures.0 ∙ before_right own c.args.k h l;
     }

@@ -1,59 +1,31 @@
--- `blocks::rest` meets its contract. The loop's invariant: the place is still sought from byte m on.
+-- `blocks::rest` meets its contract: the closing is in the byte ahead, or is asked of those behind it.
 -- Assumes nothing.
-use mathlib.Core.Path.{refl, sym, ◌∙◌}
+use mathlib.Core.Path.{◌≡◌, ap, sym, ◌∙◌}
+use Prim.Native.Nat.{ℕ}
 use native.Mathlib.Omega.{arith}
-use lib.ListN.{get_or}
-use Rattle.rules.specs.Bytes.{low_bits}
+use mathlib.Core.List.{List}
+use lib.ListN.{length, take, drop, get_or}
+use Prim.Native.Nat.{◌<◌}
+use Rattle.rules.specs.Bytes.{low_bits, all_bits}
 use Rattle.words.proofs.Loaded.{one_byte}
-use Rattle.blocks.proofs.Selects.{sought-from, sought_here, sought-on, sought_end}
+use Rattle.blocks.proofs.Selects.{left_all, left_none, left_on, left_here}
 use Rattle.blocks.proofs.rest.Goals as goal
 
+ahead : (bs : List ℕ) (m b : ℕ) → m < length bs → b ≡ get_or bs m 0 → all_bits (take 1 (drop m bs)) ≡ low_bits 8 b
+ahead bs m b h e = one_byte bs m h ∙ ap (low_bits 8) (sym e)
+
 pub loop-m-init : goal.loop-m-init
-loop-m-init c = (c.requires.0, refl)
-
-pub bounds-part-m : goal.bounds-part-m
-bounds-part-m c = c.loop-m-test.true
-
-pub overflow_cast-n : goal.overflow_cast-n
-overflow_cast-n c = omega (arith, c.type_inv.part c.loop-m.m)
-
-pub overflow_mul-n : goal.overflow_mul-n
-overflow_mul-n c = omega arith
-
-pub count_eight-c-requires : goal.count_eight-c-requires
-count_eight-c-requires c = tt
-
-pub nth-requires : goal.nth-requires
-nth-requires c = (omega arith, omega arith)
+loop-m-init c = left_all c.args.part.now c.args.k
 
 pub returns-then-left-c : goal.returns-then-left-c
 returns-then-left-c c =
-    let args = c.args in
-    let bs = args.part.now in
-    let m = c.loop-m.m in
-    let h = c.loop-m-test.true in
-    c.nth.ensures
-    ∙ sym (sought_here bs m 1 c.loop-m.left (low_bits 8 (get_or bs m 0)) (omega arith) (one_byte bs m h) (omega arith))
-    ∙ c.loop-m.invariant.1
-    ∙ sought-from bs args.at args.k
-
-pub overflow_add-m : goal.overflow_add-m
-overflow_add-m c = omega arith
-
-pub loop-m-smaller : goal.loop-m-smaller
-loop-m-smaller c = omega arith
+    rw c.nth.ensures
+    (left_here c.args.part.now c.loop-m.m c.loop-m.left c.args.k (omega arith) c.loop-m.invariant 1 (low_bits 8 c.from.result) (omega arith) (ahead c.args.part.now c.loop-m.m c.from.result (omega arith) c.from.ensures) (omega arith))
 
 pub loop-m-preserved : goal.loop-m-preserved
 loop-m-preserved c =
-    let bs = c.args.part.now in
-    let m = c.loop-m.m in
-    let h = c.loop-m-test.true in
-    (omega arith, rw c.count_eight-c.ensures (sym (sought-on bs m 1 c.loop-m.left (low_bits 8 (get_or bs m 0)) (omega arith) (one_byte bs m h) (omega arith))) ∙ c.loop-m.invariant.1)
-
-pub overflow_mul-result : goal.overflow_mul-result
-overflow_mul-result c = omega arith
+    rw c.count_eight-c.ensures
+    (left_on c.args.part.now c.loop-m.m c.loop-m.left c.args.k (omega arith) c.loop-m.invariant 1 (low_bits 8 c.from.result) (omega arith) (ahead c.args.part.now c.loop-m.m c.from.result (omega arith) c.from.ensures) (omega arith))
 
 pub returns : goal.returns
-returns c =
-    let args = c.args in
-    sym (sought_end args.part.now c.loop-m.m c.loop-m.left c.loop-m-test.false) ∙ c.loop-m.invariant.1 ∙ sought-from args.part.now args.at args.k
+returns c = left_none c.args.part.now c.loop-m.m c.loop-m.left c.args.k (omega arith) c.loop-m.invariant

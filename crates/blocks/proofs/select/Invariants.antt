@@ -1,13 +1,7 @@
--- `blocks::select` meets its contract. The loop's invariant: the place is still sought from byte at on.
--- Assumes nothing.
-use mathlib.Core.Path.{◌≡◌}
-use Prim.Native.Nat.{◌-◌, ◌≤◌}
-use lib.ListN.{length}
-use Rattle.blocks.proofs.Selects.{sought}
+-- `blocks::select`: of the closings asked for, those of the first m eights of bytes are passed.
+use Prim.Native.Nat.{◌*◌}
+use Rattle.blocks.proofs.Selects.{Left}
 use Rattle.blocks.proofs.select.Given as goal
 
-abbrev pub invariant-loop-at : goal.invariant-loop-at
-invariant-loop-at l = (l.at ≤ length l.part) × (sought l.part l.at l.left ≡ sought l.part 0 l.k)
-
-abbrev pub decreases-loop-at : goal.decreases-loop-at
-decreases-loop-at l = length l.part - l.at
+abbrev pub invariant-loop-m : goal.invariant-loop-m
+invariant-loop-m l = Left l.part (8 * l.m) l.left l.k

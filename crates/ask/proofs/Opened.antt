@@ -75,15 +75,21 @@ pub record Leads (b k r m : ℕ) : Type 0 where
   pub among : m < closings (low_bits 8 r)
   pub place : closing_place (low_bits 8 r) m ≡ closing_place (low_bits 8 b) k
 
-pub leads-on : (b k r m : ℕ) → Leads b k r m → 0 < m → Leads b k (bit_or r (r + 1)) (m - 1)
-leads-on b k r m h l =
-    let f = first r (not_all r m h.byte h.among) in
-    let e : suc (m - 1) ≡ m = omega arith in
-    let a : suc (m - 1) < closings (low_bits 8 r) = rw e h.among in
+pub leads_first : (b k : ℕ) → b < 256 → k < closings (low_bits 8 b) → Leads b k b (k - 0)
+leads_first b k l h =
+    let z : k - 0 ≡ k = omega arith in
+    rw z (record { byte = l; among = h; place = refl })
+
+-- after i of k steps
+pub leads-on : (b k r i : ℕ) → Leads b k r (k - i) → i < k → Leads b k (bit_or r (r + 1)) (k - (i + 1))
+leads-on b k r i h l =
+    let f = first r (not_all r (k - i) h.byte h.among) in
+    let e : suc (k - (i + 1)) ≡ k - i = omega arith in
+    let a : suc (k - (i + 1)) < closings (low_bits 8 r) = rw e h.among in
     record {
       byte = f.byte;
-      among = rw f.bits (opened-fewer (low_bits 8 r) (m - 1) a);
-      place = rw (f.bits, opened_place (low_bits 8 r) (m - 1) a, e) h.place;
+      among = rw f.bits (opened-fewer (low_bits 8 r) (k - (i + 1)) a);
+      place = rw (f.bits, opened_place (low_bits 8 r) (k - (i + 1)) a, e) h.place;
     }
 
 pub leads-there : (b k r m : ℕ) → Leads b k r m → m ≤ 0 → count_trailing_zeros 32 (r + 1) ≡ closing_place (low_bits 8 b) k

@@ -3,7 +3,6 @@
 ghost use Rattle.std.specs.Prelude.{◌≡◌, ◌+◌, ◌≤◌, ◌<◌, take, drop};
 ghost use Rattle.rules.specs.Excess.{closings, closing_place};
 ghost use Rattle.rules.specs.Bytes.{low_bits};
-ghost use Rattle.scan.specs.Rows.{rows};
 ghost use Rattle.scan.specs.Scan.{Ready, scan_of};
 ghost use Rattle.ask.specs.Byte.{begun, shorter, Begins};
 
@@ -15,26 +14,10 @@ pub fn nth(b: u8, k: usize) -> u32
     ensures { result ≡ closing_place (low_bits 8 b) k }
 {
     let mut rest = b as u32;
-    let mut left = k;
-    while 0 < left {
-        rest = rest | (rest + 1);
-        left -= 1;
+    for _ in 0..k {
+        rest |= rest + 1;
     }
     u32::trailing_zeros(rest + 1)
-}
-
-// The state behind byte b of a scan that begins at the closing at its bit x, after which the excess
-// is e. What is before x is read as closings, each of which leaves more than e.
-pub fn behind(t: &scan::RowTable, at: usize, b: u8, x: u32, e: usize) -> Scan
-    requires { (t.now ≡ rows) × Begins at b x e }
-    ensures { result ≡ scan_of (begun e (at + x)) (at + x + 1) (drop (x + 1) (low_bits 8 b)) }
-{
-    let start = Scan {
-        excess: e + (x as usize) + 1,
-        smallest: 1048576,
-        place: 0,
-    };
-    start.byte(t, at, scan::mask::closed(b, x))
 }
 
 // The state with its last u parentheses taken back, which were openings and so never the smallest.
@@ -50,17 +33,49 @@ fn without(st: Scan, u: u32) -> Scan
 }
 
 // The state after the first k parentheses of byte b. What is behind them is read as openings.
-pub fn upto(st: Scan, t: &scan::RowTable, at: usize, b: u8, k: u32) -> Scan
-    requires { (t.now ≡ rows) × Ready st 8 × (at ≤ 1048576) × (0 < k) × (k ≤ 8) }
+pub fn upto(st: Scan, at: usize, b: u8, k: u32) -> Scan
+    requires { Ready st 8 × (at ≤ 1048576) × (0 < k) × (k ≤ 8) }
     ensures { result ≡ scan_of st at (take k (low_bits 8 b)) }
 {
-    without(st.byte(t, at, scan::mask::opened(b, k)), 8 - k)
+    without(st.byte(at, scan::mask::opened(b, k)), 8 - k)
 }
 
-// The same of a scan that begins at the closing at bit x.
-pub fn within(t: &scan::RowTable, at: usize, b: u8, x: u32, e: usize, k: u32) -> Scan
-    requires { (t.now ≡ rows) × Begins at b x e × (x < k) × (k ≤ 8) }
-    ensures { result ≡ scan_of (begun e (at + x)) (at + x + 1) (drop (x + 1) (take k (low_bits 8 b))) }
-{
-    without(behind(t, at, scan::mask::opened(b, k), x, e), 8 - k)
+// Where a scan begins: at the closing at this bit of a byte, whose first bit stands at place at. After the
+// closing the excess is this.
+#[derive(Clone, Copy)]
+pub struct Start {
+    pub at: usize,
+    pub byte: u8,
+    pub bit: u32,
+    pub excess: usize,
+    pub ghost begins: { Begins at byte bit excess },
+}
+
+impl Start {
+    // The state behind the byte. What is before the closing is read as closings, each of which leaves a
+    // greater excess.
+    pub fn behind(self) -> Scan
+        ensures { result ≡ scan_of (begun self.excess (self.at + self.bit)) (self.at + self.bit + 1) (drop (self.bit + 1) (low_bits 8 self.byte)) }
+    {
+        let start = Scan {
+            excess: self.excess + (self.bit as usize) + 1,
+            smallest: 1048576,
+            place: 0,
+        };
+        start.byte(self.at, scan::mask::closed(self.byte, self.bit))
+    }
+
+    // The state after the byte's first k parentheses, the closing's among them.
+    pub fn within(self, k: u32) -> Scan
+        requires { (self.bit < k) × (k ≤ 8) }
+        ensures { result ≡ scan_of (begun self.excess (self.at + self.bit)) (self.at + self.bit + 1) (drop (self.bit + 1) (take k (low_bits 8 self.byte))) }
+    {
+        let whole = Start {
+            at: self.at,
+            byte: scan::mask::opened(self.byte, k),
+            bit: self.bit,
+            excess: self.excess,
+        };
+        without(whole.behind(), 8 - k)
+    }
 }

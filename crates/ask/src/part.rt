@@ -2,15 +2,11 @@
 ghost use Rattle.std.specs.Prelude.{◌≡◌, ◌+◌, ◌*◌, ◌≤◌, ◌<◌, length, take};
 ghost use Rattle.rules.specs.Excess.{closings, closing_place};
 ghost use Rattle.rules.specs.Bytes.{all_bits};
-ghost use Rattle.scan.specs.Rows.{rows};
 ghost use Rattle.scan.specs.Scan.{scan_of};
 ghost use Rattle.ask.specs.Part.{ground_level, outset, Ahead, Stops, Skips};
 
 use crate::byte;
-use scan::Scan;
-
-// Excesses are counted from here: a record has at most 65,536 parentheses, so none is below 0.
-pub const GROUND: usize = 65536;
+use scan::{GROUND, Scan};
 
 // The byte in which a closing stands and its bit there, with the state before that byte.
 #[derive(Clone, Copy)]
@@ -23,18 +19,18 @@ pub struct Stop {
 // Closing number k of these bytes, the first of whose parentheses stands at place at. The excess
 // tells how many closings have been read: it is ground, one more for each parenthesis, and two less
 // for each that closes.
-pub fn seek(st: Scan, t: &scan::RowTable, part: &[u8], at: usize, k: usize) -> Stop
-    requires { (t.now ≡ rows) × Ahead st at part.now k }
+pub fn seek(st: Scan, part: &[u8], at: usize, k: usize) -> Stop
+    requires { Ahead st at part.now k }
     ensures { Stops st at part.now k result }
 {
     let ground = st.excess;
     let mut here = st;
     let mut m = 0;
-    let mut next = here.byte(t, at, part[m]);
+    let mut next = here.byte(at, part[m]);
     while 8 * (m + 1) + ground <= 2 * k + next.excess {
         here = next;
         m += 1;
-        next = here.byte(t, at + 8 * m, part[m]);
+        next = here.byte(at + 8 * m, part[m]);
     }
     let before = (8 * m + ground - here.excess) / 2;
     Stop {
@@ -77,8 +73,8 @@ fn skip(part: &[u8], k: usize) -> Skipped
 
 // Closing number k of these bytes, whose first parenthesis is the record's. Nothing before it is sought
 // as the smallest, so the bytes before it are only counted, up to the last few.
-pub fn find(t: &scan::RowTable, part: &[u8], k: usize) -> Stop
-    requires { (t.now ≡ rows) × (8 * length part.now ≤ ground_level) × (k < closings (all_bits part.now)) }
+pub fn find(part: &[u8], k: usize) -> Stop
+    requires { (8 * length part.now ≤ ground_level) × (k < closings (all_bits part.now)) }
     ensures { Stops outset 0 part.now k result }
 {
     let skipped = skip(part, k);
@@ -88,7 +84,7 @@ pub fn find(t: &scan::RowTable, part: &[u8], k: usize) -> Stop
         smallest: 0,
         place: 0,
     };
-    let stop = seek(start, t, &part[from..], 8 * from, k - skipped.closings);
+    let stop = seek(start, &part[from..], 8 * from, k - skipped.closings);
     let scan = stop.scan;
     Stop {
         scan,
@@ -98,11 +94,11 @@ pub fn find(t: &scan::RowTable, part: &[u8], k: usize) -> Stop
 }
 
 // The state just behind closing number k of these bytes.
-pub fn through(st: Scan, t: &scan::RowTable, part: &[u8], at: usize, k: usize) -> Scan
-    requires { (t.now ≡ rows) × Ahead st at part.now k }
+pub fn through(st: Scan, part: &[u8], at: usize, k: usize) -> Scan
+    requires { Ahead st at part.now k }
     ensures { result ≡ scan_of st at (take (closing_place (all_bits part.now) k + 1) (all_bits part.now)) }
 {
-    let stop = seek(st, t, part, at, k);
+    let stop = seek(st, part, at, k);
     let m = stop.byte;
-    byte::upto(stop.scan, t, at + 8 * m, part[m], stop.bit + 1)
+    byte::upto(stop.scan, at + 8 * m, part[m], stop.bit + 1)
 }

@@ -1,6 +1,6 @@
 -- The byte in which closing i stands, and what is read from there to closing j: in the same byte, or in bytes behind it.
 -- Of any bytes, balanced or not. Assumes nothing.
-use mathlib.Core.Path.{◌≡◌, ap, sym, subst⁻¹, ◌∙◌}
+use mathlib.Core.Path.{◌≡◌, ap, sym, ◌∙◌}
 use Prim.Native.Nat.{ℕ, suc, ◌+◌, ◌-◌, ◌*◌, ◌/◌, ◌≤◌, ◌<◌}
 use native.Mathlib.Numerals.{add-one}
 use native.Mathlib.Omega.{arith}
@@ -17,7 +17,7 @@ use Rattle.rules.proofs.Parts.{closing_first, closing_second, closing-closes, al
 use Rattle.rules.proofs.Counted.{excess-counts}
 use Rattle.scan.specs.declared.Scan.{Scan}
 use Rattle.scan.specs.Scan.{scan_of, Ready}
-use Rattle.scan.proofs.Laws.{scan-append, ready_after}
+use Rattle.scan.proofs.Laws.{scan-append, ready_after, ready_same}
 use Rattle.ask.specs.Byte.{begun, Begins}
 use Rattle.ask.specs.Part.{ground_level, outset, Ahead, Stops}
 use Rattle.ask.specs.Between.{seen_between, Asked}
@@ -118,12 +118,6 @@ module _ {bs : List ℕ} {i j : ℕ} {r : Stop} (q : Asked bs i j) (w : Stops ou
   pub before_fits : r.scan.excess ≤ 8 * r.byte + ground_level
   before_fits = omega (arith, level)
 
-  pub before_is : (8 * r.byte + ground_level - r.scan.excess) / 2 ≡ passed bs r.byte
-  before_is = omega (arith, level)
-
-  pub before_low : passed bs r.byte ≤ j
-  before_low = omega (arith, closings_before, q.order)
-
   -- ---- what is read from there to closing j
 
   order : closing_place s i ≤ closing_place s j
@@ -138,41 +132,16 @@ module _ {bs : List ℕ} {i j : ℕ} {r : Stop} (q : Asked bs i j) (w : Stops ou
   from : 8 * r.byte + r.bit + 1 ≡ length u + (r.bit + 1)
   from = omega (arith, before)
 
-  -- closing j is in the same byte, at bit y
-  module _ (h : j < passed bs (r.byte + 1)) where
-    pub same-among : j - passed bs r.byte < closings v
-    same-among = omega (arith, before_low, closings_next)
-
-    module _ {y : ℕ} (e : y ≡ closing_place v (j - passed bs r.byte)) where
-      pub same_low : y < 8
-      same_low = omega (arith, eight, closing-within v (j - passed bs r.byte) same-among)
-
-      place : closing_place s j ≡ 8 * r.byte + y
-      place =
-          rw (cut, closing_second u (v ++ z) j before_low, closing_first v z (j - passed bs r.byte) same-among, ← e, before)
-
-      pub same-order : r.bit < y + 1
-      same-order = omega (arith, order, place, w.stands)
-
-      pub same_seen : onward i r (drop (r.bit + 1) (take (y + 1) v)) ≡ seen_between s i j
-      same_seen =
-          let n : suc (closing_place s j) ≡ 8 * r.byte + (y + 1) = omega (arith, place) in
-          seen (drop (r.bit + 1) (take (y + 1) v))
-          (rw (n, front (y + 1) (omega (arith, same_low, eight)), from) (drop-append-add u (take (y + 1) v) (r.bit + 1)))
-
   -- ---- behind that byte, in the state here
 
   rest : length (drop (r.bit + 1) v) ≡ 7 - r.bit
   rest = omega (arith, length-drop (r.bit + 1) v, eight, w.bit)
 
-  pub next_part : take (length bs - (r.byte + 1)) (drop (r.byte + 1) bs) ≡ drop (r.byte + 1) bs
-  next_part = take_all (length bs - (r.byte + 1)) (drop (r.byte + 1) bs) (omega (arith, length-drop (r.byte + 1) bs))
-
   joined : s ≡ all_bits (take (r.byte + 1) bs) ++ z
   joined =
       cut ∙ sym (append_assoc u v z) ∙ ap (λ (l : List Paren). l ++ z) (sym (bits-more bs r.byte w.byte))
 
-  module _ (here : Scan) (f : here ≡ onward i r (drop (r.bit + 1) v)) where
+  module _ {here : Scan} (f : here ≡ onward i r (drop (r.bit + 1) v)) where
     level_next : here.excess + 2 * passed bs (r.byte + 1) ≡ 8 * (r.byte + 1) + ground_level
     level_next =
         let c = scan-counts (begun (excess_at i r) (8 * r.byte + r.bit)) (8 * r.byte + r.bit + 1) (drop (r.bit + 1) v) (omega (arith, rest, begins)) in
@@ -181,36 +150,73 @@ module _ {bs : List ℕ} {i j : ℕ} {r : Stop} (q : Asked bs i j) (w : Stops ou
     pub next_fits : here.excess ≤ 8 * (r.byte + 1) + ground_level
     next_fits = omega (arith, level_next)
 
-    pub next_is : (8 * (r.byte + 1) + ground_level - here.excess) / 2 ≡ passed bs (r.byte + 1)
-    next_is = omega (arith, level_next)
+    -- n closings are before it
+    module _ {n : ℕ} (counted : n ≡ (8 * (r.byte + 1) + ground_level - here.excess) / 2) where
+      next : n ≡ passed bs (r.byte + 1)
+      next = omega (arith, level_next)
 
-    -- closing j is not in that byte
-    module _ (h : passed bs (r.byte + 1) ≤ j) where
-      ready : Ready here (8 * length (drop (r.byte + 1) bs))
-      ready =
-          let n = length-drop (r.byte + 1) bs in
-          subst⁻¹ (λ (x : Scan). Ready x (8 * length (drop (r.byte + 1) bs))) f
-          (ready_after (begun (excess_at i r) (8 * r.byte + r.bit)) (8 * r.byte + r.bit + 1) (8 * length (drop (r.byte + 1) bs)) (drop (r.bit + 1) v)
-          (record {
-            room = omega (arith, rest, number_low, q.few, w.byte, w.bit);
-            high = omega (arith, rest, byte_low, q.few, w.byte, w.bit);
-            bound = omega (arith, byte_low, w.bit);
-          }))
+      -- closing j is in closing i's byte, before which there are m closings
+      module _ (h : j < n) {m : ℕ} (e : m ≡ (8 * r.byte + ground_level - r.scan.excess) / 2) where
+        earlier : m ≡ passed bs r.byte
+        earlier = omega (arith, level)
 
-      pub apart-ahead : Ahead here (8 * (r.byte + 1)) (drop (r.byte + 1) bs) (j - passed bs (r.byte + 1))
-      apart-ahead =
-          let c : closings s ≡ passed bs (r.byte + 1) + closings z = ap closings joined ∙ closings-append (all_bits (take (r.byte + 1) bs)) z in
-          record { ready = ready; near = omega (arith, length-drop (r.byte + 1) bs, q.few, w.byte); among = omega (arith, q.among) }
+        pub same_after : m ≤ j
+        same_after = omega (arith, earlier, closings_before, q.order)
 
-      pub apart-seen : scan_of here (8 * (r.byte + 1)) (take (closing_place z (j - passed bs (r.byte + 1)) + 1) z) ≡ seen_between s i j
-      apart-seen =
-          let k = closing_place z (j - passed bs (r.byte + 1)) in
-          let end : closing_place s j ≡ 8 * (r.byte + 1) + k =
-          rw (joined, closing_second (all_bits (take (r.byte + 1) bs)) z j h, bits-length bs (r.byte + 1) (omega (arith, w.byte))) in
-          let n : suc (closing_place s j) ≡ length u + (length v + (k + 1)) = omega (arith, before, eight) in
-          let p : 8 * r.byte + r.bit + 1 + length (drop (r.bit + 1) v) ≡ 8 * (r.byte + 1) = omega (arith, rest, w.bit) in
-          let d : drop (8 * r.byte + r.bit + 1) (take (suc (closing_place s j)) s) ≡ drop (r.bit + 1) v ++ take (k + 1) z =
-          rw (n, cut, take-append-add u (v ++ z) (length v + (k + 1)), take-append-add v z (k + 1), from, drop-append-add u (v ++ take (k + 1) z) (r.bit + 1))
-          (drop-append-le (r.bit + 1) v (take (k + 1) z) (omega (arith, low))) in
-          rw (f, ← p, ← (scan-append (begun (excess_at i r) (8 * r.byte + r.bit)) (8 * r.byte + r.bit + 1) (drop (r.bit + 1) v) (take (k + 1) z)))
-          (seen (drop (r.bit + 1) v ++ take (k + 1) z) d)
+        pub same-among : j - m < closings v
+        same-among = omega (arith, same_after, earlier, next, closings_next)
+
+        -- at bit y
+        module _ {y : ℕ} (p : y ≡ closing_place v (j - m)) where
+          pub same_low : y < 8
+          same_low = omega (arith, eight, closing-within v (j - m) same-among)
+
+          place : closing_place s j ≡ 8 * r.byte + y
+          place =
+              rw (cut, closing_second u (v ++ z) j (rw earlier at same_after), closing_first v z (j - passed bs r.byte) (rw earlier at same-among), ← earlier, ← p, before)
+
+          pub same-order : r.bit < y + 1
+          same-order = omega (arith, order, place, w.stands)
+
+          pub same_seen : onward i r (drop (r.bit + 1) (take (y + 1) v)) ≡ seen_between s i j
+          same_seen =
+              let l : suc (closing_place s j) ≡ 8 * r.byte + (y + 1) = omega (arith, place) in
+              seen (drop (r.bit + 1) (take (y + 1) v))
+              (rw (l, front (y + 1) (omega (arith, same_low, eight)), from) (drop-append-add u (take (y + 1) v) (r.bit + 1)))
+
+      -- closing j is behind that byte
+      module _ (h : n ≤ j) where
+        abbrev behind : List ℕ
+        behind = take (length bs - (r.byte + 1)) (drop (r.byte + 1) bs)
+
+        part : behind ≡ drop (r.byte + 1) bs
+        part = take_all (length bs - (r.byte + 1)) (drop (r.byte + 1) bs) (omega (arith, length-drop (r.byte + 1) bs))
+
+        ready : Ready here (8 * length (drop (r.byte + 1) bs))
+        ready =
+            let n = length-drop (r.byte + 1) bs in
+            ready_same (8 * length (drop (r.byte + 1) bs)) f
+            (ready_after (begun (excess_at i r) (8 * r.byte + r.bit)) (8 * r.byte + r.bit + 1) (8 * length (drop (r.byte + 1) bs)) (drop (r.bit + 1) v)
+            (record {
+              room = omega (arith, rest, number_low, q.few, w.byte, w.bit);
+              high = omega (arith, rest, byte_low, q.few, w.byte, w.bit);
+              bound = omega (arith, byte_low, w.bit);
+            }))
+
+        pub apart-ahead : Ahead here (8 * (r.byte + 1)) behind (j - n)
+        apart-ahead =
+            let c : closings s ≡ passed bs (r.byte + 1) + closings z = ap closings joined ∙ closings-append (all_bits (take (r.byte + 1) bs)) z in
+            rw part (record { ready = ready; near = omega (arith, length-drop (r.byte + 1) bs, q.few, w.byte); among = omega (arith, next, q.among) })
+
+        pub apart-seen : scan_of here (8 * (r.byte + 1)) (take (closing_place (all_bits behind) (j - n) + 1) (all_bits behind)) ≡ seen_between s i j
+        apart-seen =
+            let k = closing_place z (j - n) in
+            let end : closing_place s j ≡ 8 * (r.byte + 1) + k =
+            rw (joined, closing_second (all_bits (take (r.byte + 1) bs)) z j (rw next at h), ← next, bits-length bs (r.byte + 1) (omega (arith, w.byte))) in
+            let m : suc (closing_place s j) ≡ length u + (length v + (k + 1)) = omega (arith, before, eight) in
+            let p : 8 * r.byte + r.bit + 1 + length (drop (r.bit + 1) v) ≡ 8 * (r.byte + 1) = omega (arith, rest, w.bit) in
+            let d : drop (8 * r.byte + r.bit + 1) (take (suc (closing_place s j)) s) ≡ drop (r.bit + 1) v ++ take (k + 1) z =
+            rw (m, cut, take-append-add u (v ++ z) (length v + (k + 1)), take-append-add v z (k + 1), from, drop-append-add u (v ++ take (k + 1) z) (r.bit + 1))
+            (drop-append-le (r.bit + 1) v (take (k + 1) z) (omega (arith, low))) in
+            rw (part, f, ← p, ← (scan-append (begun (excess_at i r) (8 * r.byte + r.bit)) (8 * r.byte + r.bit + 1) (drop (r.bit + 1) v) (take (k + 1) z)))
+            (seen (drop (r.bit + 1) v ++ take (k + 1) z) d)

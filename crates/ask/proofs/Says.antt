@@ -5,11 +5,9 @@ use Prim.Native.Nat.{ℕ, ◌≤◌, ◌<◌}
 use mathlib.Core.List.{List}
 use borrow.Author.Tests.{lt-ltb, le-ltb}
 use Rattle.rules.specs.Excess.{entry_between}
-use Rattle.rules.specs.Bytes.{entries, parens}
+use Rattle.rules.specs.Bytes.{parens}
 use Rattle.rules.specs.Refusal.{answer, refusal}
 use Rattle.rules.specs.Order.{check_says, ask_says}
-use Rattle.rules.proofs.Checked.{says_checked}
-use Rattle.ask.specs.Between.{Taken}
 
 pub ask-refused : (r : List ℕ) (i j : ℕ) {k : ℕ} → check_says r ≡ refusal k → ask_says r i j ≡ refusal k
 unfolding ask_says
@@ -24,12 +22,6 @@ module _ (r : List ℕ) (i j : ℕ) {n : ℕ} (e : check_says r ≡ answer n) wh
   unfolding ask_says
   ask_outside h l = rw (e, le-ltb j i h, le-ltb j n l)
 
-  head : entries r ≡ n
-  head = (says_checked r n e).framed.says
-
-  pub ask-taken : i ≤ j → j < n → Taken r i j
-  ask-taken h l = record { checks = rw head e; order = h; among = rw head l }
-
-  pub ask-answered : i ≤ j → j < n → ask_says r i j ≡ answer (entry_between (parens (entries r) r) i j)
+  pub ask-answered : i ≤ j → j < n → ask_says r i j ≡ answer (entry_between (parens n r) i j)
   unfolding ask_says
-  ask-answered h l = rw (e, le-ltb j i h, lt-ltb j n l, head)
+  ask-answered h l = rw (e, le-ltb j i h, lt-ltb j n l)

@@ -1,9 +1,8 @@
 -- Reading bytes until the one in which a closing stands: the excess tells how many closings have been read.
 -- Assumes nothing.
-use mathlib.Core.Path.{◌≡◌, refl, ap, subst⁻¹, ◌∙◌}
+use mathlib.Core.Path.{◌≡◌, refl, ap, ◌∙◌}
 use Prim.Native.Nat.{ℕ, suc, pred, ◌+◌, ◌-◌, ◌*◌, ◌/◌, ◌≤◌, ◌<◌}
 use native.Mathlib.Numerals.{add-one}
-use native.Mathlib.Decide.{dec_lt}
 use native.Mathlib.Omega.{arith}
 use mathlib.Core.List.{List, [], ◌∷◌, ◌++◌, append-nil}
 use lib.ListN.{length, take, drop, get_or}
@@ -17,7 +16,7 @@ use Rattle.rules.proofs.Bytes.{low_bits-length, all_bits-length, all_bits-append
 use Rattle.rules.proofs.Parts.{closing_first, closing_second, all_bits-cut}
 use Rattle.scan.specs.declared.Scan.{Scan}
 use Rattle.scan.specs.Scan.{step_of, scan_of, Ready}
-use Rattle.scan.proofs.Laws.{scan-append, scanned, scanned_none, scanned-ready, scanned-more}
+use Rattle.scan.proofs.Laws.{scan-append, scanned, scanned_none, scanned-ready, scanned-more, ready_same}
 use Rattle.ask.specs.Part.{Ahead, Stops}
 use Rattle.ask.specs.declared.part.Stop.{Stop}
 
@@ -45,108 +44,88 @@ bits-length bs m h = all_bits-length (take m bs) ∙ ap (8 *◌) (length-take-le
 abbrev pub passed : List ℕ → ℕ → ℕ
 passed bs m = closings (all_bits (take m bs))
 
--- byte m is being looked at: here is the state before it, next the state behind it, and closing k is not before it
-pub record Seeks (st : Scan) (at : ℕ) (bs : List ℕ) (k : ℕ) (here : Scan) (m : ℕ) (next : Scan) : Type 0 where
-  pub within : m < length bs
+-- here is the state before byte m, and closing k is not before it
+pub record Seeks (st : Scan) (at : ℕ) (bs : List ℕ) (k : ℕ) (here : Scan) (m : ℕ) : Type 0 where
   pub ahead : passed bs m ≤ k
   pub before : here ≡ scanned st at bs m
-  pub behind : next ≡ scanned st at bs (m + 1)
   pub level : here.excess + 2 * passed bs m ≡ st.excess + 8 * m
-  pub level_next : next.excess + 2 * passed bs (m + 1) ≡ st.excess + 8 * (m + 1)
 
 module _ {st : Scan} {at : ℕ} {bs : List ℕ} {k : ℕ} (h : Ahead st at bs k) where
-  level_after : (m : ℕ) → m ≤ length bs → (scanned st at bs m).excess + 2 * passed bs m ≡ st.excess + 8 * m
-  unfolding scanned
-  level_after m l =
-      let n = bits-length bs m l in
-      let r = h.ready.room in
-      scan-counts st at (all_bits (take m bs)) (omega arith) ∙ ap (st.excess +◌) n
-
-  -- as long as closing k is ahead there is a byte more
-  more : (m : ℕ) → m ≤ length bs → passed bs m ≤ k → m < length bs
-  more m l p = by (dec_lt m (length bs))
-    where
-      by : Dec (m < length bs) → m < length bs
-      by (yes y) = y
-      by (no n) =
-          let e : passed bs m ≡ closings (all_bits bs) = ap (λ (x : List ℕ). closings (all_bits x)) (take_all m bs (omega arith)) in
-          absurd (omega (arith, h.among))
-
-  none : passed bs 0 ≤ k
-  unfolding all_bits closings
-  none = omega arith
-
-  pub some_byte : 0 < length bs
-  some_byte = more 0 (omega arith) none
-
   pub few : k < 8 * length bs
   few = omega (arith, h.among, counts-length (all_bits bs), all_bits-length bs)
 
-  seeks : {here : Scan} {m : ℕ} {next : Scan} → m < length bs → passed bs m ≤ k → here ≡ scanned st at bs m
-      → next ≡ scan_of here (at + 8 * m) (low_bits 8 (get_or bs m 0)) → Seeks st at bs k here m next
-  seeks {here} {m} {next} l p e f =
-      let g : next ≡ scanned st at bs (m + 1) = f ∙ ap (λ (x : Scan). scan_of x (at + 8 * m) (low_bits 8 (get_or bs m 0))) e ∙ scanned-more st at m bs l in
-      record {
-        within = l;
-        ahead = p;
-        before = e;
-        behind = g;
-        level = rw e (level_after m (omega arith));
-        level_next = rw g (level_after (m + 1) (omega arith));
-      }
+  seeks : {here : Scan} {m : ℕ} → m ≤ length bs → passed bs m ≤ k → here ≡ scanned st at bs m → Seeks st at bs k here m
+  unfolding scanned
+  seeks {here} {m} l p e =
+      let n = bits-length bs m l in
+      let r = h.ready.room in
+      record { ahead = p; before = e; level = rw e (scan-counts st at (all_bits (take m bs)) (omega arith) ∙ ap (st.excess +◌) n) }
 
-  pub seeks_first : {next : Scan} → next ≡ scan_of st at (low_bits 8 (get_or bs 0 0)) → Seeks st at bs k st 0 next
-  seeks_first e = seeks some_byte none (scanned_none st at bs) (e ∙ ap (λ (p : ℕ). scan_of st p (low_bits 8 (get_or bs 0 0))) (omega arith))
+  pub seeks_first : Seeks st at bs k st 0
+  unfolding all_bits closings
+  seeks_first = seeks (omega arith) (omega arith) (scanned_none st at bs)
 
-  module _ {here : Scan} {m : ℕ} {next : Scan} (w : Seeks st at bs k here m next) where
-    -- closing k is not in byte m
-    module _ (on : 8 * (m + 1) + st.excess ≤ 2 * k + next.excess) where
-      on-ahead : passed bs (m + 1) ≤ k
-      on-ahead = omega (arith, w.level_next)
-
-      pub on-within : m + 1 < length bs
-      on-within = more (m + 1) (omega (arith, w.within)) on-ahead
-
-      pub on-ready : Ready next 8
-      on-ready = subst⁻¹ (λ (x : Scan). Ready x 8) w.behind (scanned-ready st at (m + 1) 1 bs (omega (arith, on-within)) h.ready)
-
-      pub seeks-on : {x : Scan} → x ≡ scan_of next (at + 8 * (m + 1)) (low_bits 8 (get_or bs (m + 1) 0)) → Seeks st at bs k next (m + 1) x
-      seeks-on e = seeks on-within on-ahead w.behind e
+  module _ {here : Scan} {m : ℕ} (w : Seeks st at bs k here m) where
+    -- closing k is among the bytes
+    pub not_ended : length bs ≤ m → ⊥
+    not_ended l =
+        let e : passed bs m ≡ closings (all_bits bs) = ap (λ (x : List ℕ). closings (all_bits x)) (take_all m bs l) in
+        omega (arith, h.among, w.ahead)
 
     pub before-byte : (8 * m + st.excess - here.excess) / 2 ≡ passed bs m
     before-byte = omega (arith, w.level)
 
-    -- it is in byte m
-    module _ (off : 2 * k + next.excess < 8 * (m + 1) + st.excess) where
-      pub in-byte : k - passed bs m < closings (low_bits 8 (get_or bs m 0))
-      in-byte =
-          let v = low_bits 8 (get_or bs m 0) in
-          let c : passed bs (m + 1) ≡ passed bs m + closings v = rw (bits-more bs m w.within) (closings-append (all_bits (take m bs)) v) in
-          omega (arith, w.level_next, w.ahead)
+    module _ (l : m < length bs) where
+      pub byte-ready : Ready here 8
+      byte-ready = ready_same 8 w.before (scanned-ready st at m 1 bs (omega arith) h.ready)
 
-      pub stops : {x : ℕ} → x ≡ closing_place (low_bits 8 (get_or bs m 0)) (k - passed bs m) → Stops st at bs k (record { scan = here; byte = m; bit = x })
-      unfolding scanned
-      stops {x} e =
-          let u = all_bits (take m bs) in
-          let b = get_or bs m 0 in
-          let v = low_bits 8 b in
-          let z = all_bits (drop (suc m) bs) in
-          let l : closing_place v (k - passed bs m) < 8 = rw (low_bits-length 8 b) at (closing-within v (k - passed bs m) in-byte) in
-          let g : closing_place (all_bits bs) k ≡ length u + closing_place v (k - passed bs m) =
-          rw (all_bits-cut bs m w.within, closing_second u (v ++ z) k w.ahead) (ap (length u +◌) (closing_first v z (k - passed bs m) in-byte)) in
-          record {
-            byte = w.within;
-            bit = omega arith;
-            stands = omega (arith, bits-length bs m (omega (arith, w.within)));
-            scan = w.before;
-          }
+      -- the state behind byte m
+      module _ {next : Scan} (f : next ≡ scan_of here (at + 8 * m) (low_bits 8 (get_or bs m 0))) where
+        behind : next ≡ scanned st at bs (m + 1)
+        behind = f ∙ ap (λ (x : Scan). scan_of x (at + 8 * m) (low_bits 8 (get_or bs m 0))) w.before ∙ scanned-more st at m bs l
+
+        pub level_next : next.excess + 2 * passed bs (m + 1) ≡ st.excess + 8 * (m + 1)
+        unfolding scanned
+        level_next =
+            let n = bits-length bs (m + 1) (omega arith) in
+            let r = h.ready.room in
+            rw behind (scan-counts st at (all_bits (take (m + 1) bs)) (omega arith) ∙ ap (st.excess +◌) n)
+
+        -- closing k is not in byte m
+        pub seeks-on : 8 * (m + 1) + st.excess ≤ 2 * k + next.excess → Seeks st at bs k next (m + 1)
+        seeks-on on = record { ahead = omega (arith, level_next); before = behind; level = level_next }
+
+        -- it is in byte m
+        module _ (off : 2 * k + next.excess < 8 * (m + 1) + st.excess) where
+          in-byte : k - passed bs m < closings (low_bits 8 (get_or bs m 0))
+          in-byte =
+              let v = low_bits 8 (get_or bs m 0) in
+              let c : passed bs (m + 1) ≡ passed bs m + closings v = rw (bits-more bs m l) (closings-append (all_bits (take m bs)) v) in
+              omega (arith, level_next, w.ahead)
+
+          pub nth-in-byte : k - (8 * m + st.excess - here.excess) / 2 < closings (low_bits 8 (get_or bs m 0))
+          nth-in-byte = rw before-byte in-byte
+
+          pub stops : {x : ℕ} → x ≡ closing_place (low_bits 8 (get_or bs m 0)) (k - (8 * m + st.excess - here.excess) / 2)
+              → Stops st at bs k (record { scan = here; byte = m; bit = x })
+          unfolding scanned
+          stops {x} e' =
+              let u = all_bits (take m bs) in
+              let b = get_or bs m 0 in
+              let v = low_bits 8 b in
+              let z = all_bits (drop (suc m) bs) in
+              let e : x ≡ closing_place v (k - passed bs m) = rw before-byte at e' in
+              let n : closing_place v (k - passed bs m) < 8 = rw (low_bits-length 8 b) at (closing-within v (k - passed bs m) in-byte) in
+              let g : closing_place (all_bits bs) k ≡ length u + closing_place v (k - passed bs m) =
+              rw (all_bits-cut bs m l, closing_second u (v ++ z) k w.ahead) (ap (length u +◌) (closing_first v z (k - passed bs m) in-byte)) in
+              record { byte = l; bit = omega arith; stands = omega (arith, bits-length bs m (omega arith)); scan = w.before }
 
 -- ---- just behind a closing
 
 module _ {st : Scan} {at : ℕ} {bs : List ℕ} {k : ℕ} {r : Stop} (h : Ahead st at bs k) (w : Stops st at bs k r) where
   pub stop_ready : Ready r.scan 8
   unfolding scanned
-  stop_ready = subst⁻¹ (λ (x : Scan). Ready x 8) w.scan (scanned-ready st at r.byte 1 bs (omega (arith, w.byte)) h.ready)
+  stop_ready = ready_same 8 w.scan (scanned-ready st at r.byte 1 bs (omega (arith, w.byte)) h.ready)
 
   pub stop_through : scan_of r.scan (at + 8 * r.byte) (take (r.bit + 1) (low_bits 8 (get_or bs r.byte 0))) ≡ scan_of st at (take (closing_place (all_bits bs) k + 1) (all_bits bs))
   stop_through =

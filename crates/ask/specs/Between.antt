@@ -1,11 +1,9 @@
 -- From one closing to another: what a scan has seen on the way, by the excesses alone, and what the scan may rely on.
-use Rattle.std.specs.Prelude.{◌≡◌, ℕ, ◌+◌, ◌-◌, ◌*◌, ◌≤◌, ◌<◌, List, length, get_or}
+use Rattle.std.specs.Prelude.{ℕ, ◌+◌, ◌-◌, ◌*◌, ◌≤◌, ◌<◌, List, length, get_or}
 use Rattle.rules.specs.Shape.{Paren}
 use Rattle.rules.specs.Column.{least_of}
 use Rattle.rules.specs.Excess.{closings, closing_place, excesses}
-use Rattle.rules.specs.Bytes.{all_bits, entries}
-use Rattle.rules.specs.Refusal.{answer}
-use Rattle.rules.specs.Order.{check_says}
+use Rattle.rules.specs.Bytes.{all_bits}
 use Rattle.scan.specs.declared.Scan.{Scan}
 use Rattle.ask.specs.Part.{ground_level}
 
@@ -23,9 +21,3 @@ pub record Asked (bs : List ℕ) (i j : ℕ) : Type 0 where
   pub few : 8 * length bs ≤ ground_level
   pub order : i ≤ j
   pub among : j < closings (all_bits bs)
-
--- a record that passes its check, asked about two of its entries in order
-pub record Taken (r : List ℕ) (i j : ℕ) : Type 0 where
-  pub checks : check_says r ≡ answer (entries r)
-  pub order : i ≤ j
-  pub among : j < entries r

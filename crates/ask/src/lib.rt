@@ -7,11 +7,11 @@ pub mod part;
 
 ghost use Rattle.std.specs.Prelude.{◌≡◌, ◌+◌, ◌-◌, ◌/◌, ◌≤◌, ◌<◌};
 ghost use Rattle.rules.specs.Excess.{entry_between};
-ghost use Rattle.rules.specs.Bytes.{entries, parens, all_bits};
+ghost use Rattle.rules.specs.Bytes.{parens, all_bits};
 ghost use Rattle.rules.specs.Order.{ask_says};
 ghost use Rattle.answers.specs.Said.{said};
 ghost use Rattle.ask.specs.Part.{ground_level};
-ghost use Rattle.ask.specs.Between.{seen_between, Asked, Taken};
+ghost use Rattle.ask.specs.Between.{seen_between, Asked};
 
 use answers::Refusal;
 use checks::record::Record;

@@ -25,19 +25,19 @@ pub fn seek(st: Scan, part: &[u8], at: usize, k: usize) -> Stop
 {
     let ground = st.excess;
     let mut here = st;
-    let mut m = 0;
-    let mut next = here.byte(at, part[m]);
-    while 8 * (m + 1) + ground <= 2 * k + next.excess {
+    for (m, &b) in part.iter().enumerate() {
+        let next = here.byte(at + 8 * m, b);
+        if 2 * k + next.excess < 8 * (m + 1) + ground {
+            let before = (8 * m + ground - here.excess) / 2;
+            return Stop {
+                scan: here,
+                byte: m,
+                bit: byte::nth(b, k - before),
+            };
+        }
         here = next;
-        m += 1;
-        next = here.byte(at + 8 * m, part[m]);
     }
-    let before = (8 * m + ground - here.excess) / 2;
-    Stop {
-        scan: here,
-        byte: m,
-        bit: byte::nth(part[m], k - before),
-    }
+    unreachable!()
 }
 
 // Some bytes before a closing's, and the closings among them.
@@ -52,22 +52,18 @@ fn skip(part: &[u8], k: usize) -> Skipped
     requires { 8 * length part.now ≤ ground_level }
     ensures { Skips part.now k result }
 {
-    let mut m = 0;
-    let mut c = 0;
-    while m + 8 <= part.len() {
-        let next = c + words::closings(part, m);
+    let mut closings = 0;
+    for m in 0..part.len() / 8 {
+        let bytes = 8 * m;
+        let next = closings + words::closings(part, bytes);
         if k < next {
-            return Skipped {
-                bytes: m,
-                closings: c,
-            };
+            return Skipped { bytes, closings };
         }
-        c = next;
-        m += 8;
+        closings = next;
     }
     Skipped {
-        bytes: m,
-        closings: c,
+        bytes: part.len() - part.len() % 8,
+        closings,
     }
 }
 

@@ -6,18 +6,18 @@ use Rattle.ask.proofs.part.find.Goals as goal
 
 pub overflow_mul-start-2 : goal.overflow_mul-start-2
 overflow_mul-start-2 c =
-    omega (arith, c.requires.1, c.skip-skipped.ensures.within, skipped_few c.requires.1 c.requires.2 c.skip-skipped.ensures)
+    omega (arith, c.requires.0, c.skip-skipped.ensures.within, skipped_few c.requires.0 c.requires.1 c.skip-skipped.ensures)
 
 pub overflow_sub-start : goal.overflow_sub-start
 overflow_sub-start c =
-    omega (arith, c.requires.1, c.skip-skipped.ensures.within, skipped_few c.requires.1 c.requires.2 c.skip-skipped.ensures)
+    omega (arith, c.requires.0, c.skip-skipped.ensures.within, skipped_few c.requires.0 c.requires.1 c.skip-skipped.ensures)
 
 pub seek-stop-requires : goal.seek-stop-requires
 seek-stop-requires c =
     let w = c.skip-skipped.ensures in
-    (c.requires.0, rw (left_part c.requires.1 c.requires.2 w) (left_ahead c.requires.1 c.requires.2 w))
+    rw (left_part c.requires.0 c.requires.1 w) (left_ahead c.requires.0 c.requires.1 w)
 
 pub returns : goal.returns
 returns c =
     let w = c.skip-skipped.ensures in
-    left_found c.requires.1 c.requires.2 w (rw (left_part c.requires.1 c.requires.2 w) at c.seek-stop.ensures)
+    left_found c.requires.0 c.requires.1 w (rw (left_part c.requires.0 c.requires.1 w) at c.seek-stop.ensures)

@@ -8,8 +8,8 @@ use Rattle.ask.proofs.part.through.Goals as goal
 pub upto-requires : goal.upto-requires
 upto-requires c =
     let stop = c.seek-stop.ensures in
-    (c.requires.0, stop_ready c.requires.1 stop, omega arith, omega arith, omega arith)
+    (stop_ready c.requires stop, omega arith, omega arith, omega arith)
 
 pub returns : goal.returns
 returns c =
-    c.upto.ensures ∙ stop_through c.requires.1 c.seek-stop.ensures
+    c.upto.ensures ∙ stop_through c.requires c.seek-stop.ensures

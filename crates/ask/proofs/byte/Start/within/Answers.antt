@@ -6,7 +6,7 @@ use lib.ListN.{take, drop}
 use Rattle.rules.specs.Bytes.{low_bits}
 use Rattle.scan.specs.Scan.{scan_of}
 use Rattle.ask.specs.Byte.{begun}
-use Rattle.ask.proofs.Fillers.{Undone, opened-begins, opened-within}
+use Rattle.ask.proofs.Fillers.{Undone, opened-within}
 use Rattle.ask.proofs.byte.Start.within.Goals as goal
 use Rattle.ask.proofs.byte.Start.within.Goals.{After-behind}
 

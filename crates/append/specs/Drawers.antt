@@ -1,12 +1,14 @@
 -- Document 01, "Record and drawer bytes" and the paragraph on hand-out and look: what the rules of drawers amount to, for every input.
-use Rattle.std.specs.Prelude.{◌≡◌, ℕ, ◌+◌, ◌-◌, ◌≤◌, ◌<◌, List, [], ◌++◌, length, take, drop}
+use Rattle.std.specs.Prelude.{◌≡◌, ℕ, ◌+◌, ◌-◌, ◌≤◌, ◌<◌, List, [], ◌++◌, length, take, drop, Result}
 use Rattle.rules.specs.Column.{Alike}
 use Rattle.rules.specs.Bytes.{most, record_length, column_record, entries}
 use Rattle.rules.specs.Refusal.{answer}
 use Rattle.rules.specs.Drawer.{most_bytes, most_records, found, lost, find_says, hand_out, own, shared, look_says, look_part, Whence, stands, refused_by, which_says, records_in, append_says, buffer_after}
 use Rattle.answers.specs.Said.{Answer}
-use Rattle.drawer.specs.declared.Found.{Found}
-use Rattle.drawer.specs.declared.Whence.{Whence as Whence'}
+use Rattle.answers.specs.declared.Refusal.{Refusal}
+use Rattle.drawer.specs.declared.Place.{Place}
+use Rattle.drawer.specs.declared.Drawer.{Drawer}
+use Rattle.drawer.specs.declared.Denied.{Denied}
 use Rattle.drawer.specs.Said.{said_found, said_whence}
 use Rattle.append.specs.Appends.{Appends}
 
@@ -58,9 +60,9 @@ pub record AppendPrivate : Type 0 where
 
 -- Two results allowed for one input are equal
 pub record DrawerOnce : Type 0 where
-  pub find : (d : List ℕ) (r : ℕ) (x y : Found) → said_found x ≡ find_says d r → said_found y ≡ find_says d r → x ≡ y
+  pub find : (d : List ℕ) (r : ℕ) (x y : Result Place Refusal) → said_found x ≡ find_says d r → said_found y ≡ find_says d r → x ≡ y
   pub handed_out : (d : List ℕ) (r : ℕ) (x y : List ℕ) → x ≡ hand_out d r → y ≡ hand_out d r → x ≡ y
   pub look : (d s : List ℕ) (r : ℕ) (x y : List ℕ) → x ≡ look_part d s (look_says d s r) → y ≡ look_part d s (look_says d s r) → x ≡ y
-  pub which : (d s : List ℕ) (r : ℕ) (x y : Whence') → said_whence x ≡ which_says d s r → said_whence y ≡ which_says d s r → x ≡ y
+  pub which : (d s : List ℕ) (r : ℕ) (x y : Result Drawer Denied) → said_whence x ≡ which_says d s r → said_whence y ≡ which_says d s r → x ≡ y
   pub append : (b : List ℕ) (u : ℕ) (c w : List ℕ) (x y : Answer) (b₁ w₁ b₂ w₂ : List ℕ) → Appends b u c w x b₁ w₁ → Appends b u c w y b₂ w₂
       → (x ≡ y) × (b₁ ≡ b₂) × (w₁ ≡ w₂)

@@ -6,47 +6,43 @@ ghost use Rattle.rules.specs.Drawer.{records_in};
 ghost use Rattle.answers.specs.Said.{said};
 ghost use Rattle.append.specs.Appends.{Appends};
 
-use answers::{Answer, Refusal};
+use answers::Refusal;
 
 // How many records stand in these bytes; 13 where they are not whole framed records. It walks the heads alone.
-fn count(bytes: &[u8]) -> Answer
+fn count(bytes: &[u8]) -> Result<usize, Refusal>
     ensures { said result ≡ records_in bytes.now }
 {
     let mut at = 0;
     let mut k = 0;
+    // by each record's length, which is not known beforehand
     while at < bytes.len() {
-        match checks::frame(&bytes[at..]) {
-            Answer::Is(n) => {
-                at += 4 + (n + 3) / 4;
-                k += 1;
-            }
-            Answer::Refused(_) => return Answer::Refused(Refusal::UsedWrong),
-        }
+        let passed = drawer::record_at(bytes, at).map_err(|_| Refusal::UsedWrong)?;
+        at = passed.at + passed.size;
+        k += 1;
     }
-    Answer::Is(k)
+    Ok(k)
 }
 
 // Append: 12, 13, 14, 1, 2, 3. It answers the new used length. The used bytes are framed once, and the record
 // is written where it stays: no byte is copied, and none outside the new record changes.
-pub fn append(buffer: &mut [u8], used: usize, column: &[u32], work: &mut [u16]) -> Answer
+pub fn append(
+    buffer: &mut [u8],
+    used: usize,
+    column: &[u32],
+    work: &mut [u16],
+) -> Result<usize, Refusal>
     ensures { Appends buffer.old used column.now work.old result buffer.new work.new }
 {
     if 65536 < buffer.len() {
-        return Answer::Refused(Refusal::DrawerLong);
+        return Err(Refusal::DrawerLong);
     }
     if buffer.len() < used {
-        return Answer::Refused(Refusal::UsedWrong);
+        return Err(Refusal::UsedWrong);
     }
-    match count(&buffer[..used]) {
-        Answer::Is(k) => {
-            if 64 <= k {
-                return Answer::Refused(Refusal::DrawerFull);
-            }
-            match build::build(column, work, &mut buffer[used..]) {
-                Answer::Is(length) => Answer::Is(used + length),
-                Answer::Refused(x) => Answer::Refused(x),
-            }
-        }
-        Answer::Refused(x) => Answer::Refused(x),
+    let k = count(&buffer[..used])?;
+    if 64 <= k {
+        return Err(Refusal::DrawerFull);
     }
+    let length = build::build(column, work, &mut buffer[used..])?;
+    Ok(used + length)
 }

@@ -1,60 +1,60 @@
--- `append::count` meets its contract. The loop's invariant: the count from this place on, begun at k, is the count of all; k is at
--- most the place. The measure is what is left of the bytes. Assumes nothing.
-use mathlib.Core.Path.{◌≡◌, refl, sym, ap, ◌∙◌}
-use Prim.Native.Nat.{◌+◌, ◌≤◌}
+-- `append::count` meets its contract: each record that is passed is one more, and whatever stops the walk is 13.
+-- Assumes nothing.
+use mathlib.Core.Path.{◌≡◌, refl, sym, ◌∙◌}
+use Prim.Native.Nat.{ℕ, ◌<◌}
 use native.Mathlib.Omega.{arith}
-use lib.ListN.{length, drop}
-use Rattle.rules.specs.Refusal.{answer}
-use Rattle.rules.specs.Bytes.{record_length}
-use Rattle.rules.specs.Order.{frame_says}
-use Rattle.rules.specs.Drawer.{records_in}
-use Rattle.rules.proofs.Checked.{says_framed}
-use Rattle.rules.proofs.Drawer.{frame-rest, frame-within, records_end, records_fault, records-more}
-use Rattle.answers.specs.Said.{said}
+use mathlib.Core.List.{List}
+use lib.ListN.{length}
+use Rattle.std.proofs.Common.{rules}
+use Rattle.std.specs.Prelude.{Result, Ok, Err}
+use Rattle.std.specs.Result.{MatchResult}
+use Rattle.rules.specs.Refusal.{refusal}
+use Rattle.rules.specs.Drawer.{found, seek, records_in}
+use Rattle.rules.proofs.Drawer.{records, records_end, records_fault, records-more}
+use Rattle.answers.specs.declared.Refusal.{Refusal}
+use Rattle.answers.specs.declared.Refusal.TheVariants.{UsedWrong}
+use Rattle.answers.proofs.Said.{said_on}
+use Rattle.answers.specs.Said.{number}
+use Rattle.drawer.specs.declared.Place.{Place}
+use Rattle.drawer.specs.Said.{said_found}
+use Rattle.drawer.proofs.Walk.{stands, ends-within, faulty}
 use Rattle.append.proofs.count.Goals as goal
+
+stopped : (d : List ℕ) (at k : ℕ) (r m : Result Place Refusal) (y : Refusal) → at < length d → said_found r ≡ seek d 0 at → m ≡ Err y
+    → MatchResult r (λ v. m ≡ Ok v) (λ x. m ≡ Err UsedWrong) → refusal (number y) ≡ records d at k
+stopped d at k (Ok v) m y h e was is = cc
+stopped d at k (Err x) m y h e was is =
+    let wrong : y ≡ UsedWrong = cc in
+    rw wrong (sym (records_fault d at k (number x) h (faulty d at (number x) h (sym e))))
 
 pub loop-at-init : goal.loop-at-init
 unfolding records_in
 loop-at-init c = (omega arith, omega arith, refl)
 
+pub returns-in_err-passed : goal.returns-in_err-passed
+returns-in_err-passed c =
+    let is : MatchResult c.record_at.result (λ v. c.map_err.result ≡ Ok v) (λ x. c.map_err.result ≡ Err UsedWrong) = search rules in
+    said_on c.from_residual.result c.in_err-passed.field-0.0 c.from_residual.ensures.1
+    ∙ stopped c.args.bytes.now c.loop-at.at c.loop-at.k c.record_at.result c.map_err.result _ c.loop-at-test.true c.record_at.ensures c.in_err-passed.was is
+    ∙ c.loop-at.invariant.2
+
 pub overflow_add-at : goal.overflow_add-at
 overflow_add-at c =
-    let framed : frame_says (drop c.loop-at.at (c.args.bytes.now)) ≡ answer c.in-Is.n = frame-rest (c.args.bytes.now) c.loop-at.at (ap said c.in-Is.is) c.frame.ensures in
-    omega (arith, (says_framed _ _ framed).few)
-
-pub overflow_add-at-in-Is : goal.overflow_add-at-in-Is
-overflow_add-at-in-Is c =
-    let framed : frame_says (drop c.loop-at.at (c.args.bytes.now)) ≡ answer c.in-Is.n = frame-rest (c.args.bytes.now) c.loop-at.at (ap said c.in-Is.is) c.frame.ensures in
-    omega (arith, (says_framed _ _ framed).few)
-
-pub overflow_add-at-in-Is-2 : goal.overflow_add-at-in-Is-2
-overflow_add-at-in-Is-2 c =
-    let framed : frame_says (drop c.loop-at.at (c.args.bytes.now)) ≡ answer c.in-Is.n = frame-rest (c.args.bytes.now) c.loop-at.at (ap said c.in-Is.is) c.frame.ensures in
-    let within : c.loop-at.at + record_length c.in-Is.n ≤ length (c.args.bytes.now) = frame-within _ _ _ framed in
-    omega (arith, within)
-
-pub overflow_add-k : goal.overflow_add-k
-overflow_add-k c =
-    let framed : frame_says (drop c.loop-at.at (c.args.bytes.now)) ≡ answer c.in-Is.n = frame-rest (c.args.bytes.now) c.loop-at.at (ap said c.in-Is.is) c.frame.ensures in
-    let within : c.loop-at.at + record_length c.in-Is.n ≤ length (c.args.bytes.now) = frame-within _ _ _ framed in
-    omega (arith, within)
+    let here : found c.in_ok-passed.passed.at c.in_ok-passed.passed.size ≡ seek c.args.bytes.now 0 c.loop-at.at = search rules in
+    omega (arith, ends-within _ _ _ _ (sym here))
 
 pub loop-at-smaller : goal.loop-at-smaller
 loop-at-smaller c =
-    let framed : frame_says (drop c.loop-at.at (c.args.bytes.now)) ≡ answer c.in-Is.n = frame-rest (c.args.bytes.now) c.loop-at.at (ap said c.in-Is.is) c.frame.ensures in
-    let within : c.loop-at.at + record_length c.in-Is.n ≤ length (c.args.bytes.now) = frame-within _ _ _ framed in
-    omega (arith, within)
+    let here : found c.in_ok-passed.passed.at c.in_ok-passed.passed.size ≡ seek c.args.bytes.now 0 c.loop-at.at = search rules in
+    let s = stands _ _ _ _ (sym here) in
+    omega (arith, ends-within _ _ _ _ (sym here), s.here, s.size)
 
 pub loop-at-preserved : goal.loop-at-preserved
 loop-at-preserved c =
-    let framed : frame_says (drop c.loop-at.at (c.args.bytes.now)) ≡ answer c.in-Is.n = frame-rest (c.args.bytes.now) c.loop-at.at (ap said c.in-Is.is) c.frame.ensures in
-    let within : c.loop-at.at + record_length c.in-Is.n ≤ length (c.args.bytes.now) = frame-within _ _ _ framed in
-    (within, omega arith, sym (records-more (c.args.bytes.now) c.loop-at.at _ _ framed) ∙ c.loop-at.invariant.2)
-
-pub returns-in-Refused : goal.returns-in-Refused
-returns-in-Refused c =
-    let fault = frame-rest (c.args.bytes.now) c.loop-at.at (ap said c.in-Refused.is) c.frame.ensures in
-    sym (records_fault _ _ _ _ c.loop-at-test.true fault) ∙ c.loop-at.invariant.2
+    let here : found c.in_ok-passed.passed.at c.in_ok-passed.passed.size ≡ seek c.args.bytes.now 0 c.loop-at.at = search rules in
+    let s = stands _ _ _ _ (sym here) in
+    let within = ends-within _ _ _ _ (sym here) in
+    (within.1, omega (arith, s.here, s.size), rw (s.here, s.size) (sym (records-more c.args.bytes.now c.loop-at.at c.loop-at.k s.n s.framed) ∙ c.loop-at.invariant.2))
 
 pub returns : goal.returns
 returns c = sym (records_end (c.args.bytes.now) _ _ c.loop-at-test.false) ∙ c.loop-at.invariant.2

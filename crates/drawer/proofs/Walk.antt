@@ -5,7 +5,7 @@ use Prim.Native.Nat.{ℕ, suc, ◌+◌, ◌≤◌, ◌<◌}
 use native.Mathlib.Omega.{arith}
 use mathlib.Core.Bool.{Bool, true, false, cond}
 use mathlib.Core.List.{List}
-use borrow.Author.Tests.{lt-ltb, ltb-false}
+use borrow.Author.Tests.{lt-ltb, ltb-true, ltb-false}
 use lib.Dec.{ltb}
 use lib.ListN.{length, drop}
 use Rattle.rules.specs.Bytes.{record_length}
@@ -30,11 +30,11 @@ stands d at p l e = by (ltb at (length d)) (frame_says (drop at d)) refl e
     by true (refusal k) f e = cc
     by false o f e = cc
 
--- it ends within the drawer, and the walk goes on behind it
-pub ends-within : (d : List ℕ) (at p l : ℕ) → seek d 0 at ≡ found p l → (4 ≤ l) × (p + l ≤ length d)
+-- it ends within the drawer, behind this place, and the walk goes on there
+pub ends-within : (d : List ℕ) (at p l : ℕ) → seek d 0 at ≡ found p l → (p ≡ at) × (4 ≤ l) × (p + l ≤ length d)
 ends-within d at p l e =
     let s = stands d at p l e in
-    (omega (arith, s.size), omega (arith, s.here, s.size, frame-within d at s.n s.framed))
+    (s.here, omega (arith, s.size), omega (arith, s.here, s.size, frame-within d at s.n s.framed))
 
 pub walks-on : (d : List ℕ) (at p l r : ℕ) → seek d 0 at ≡ found p l → seek d (suc r) at ≡ seek d r (p + l)
 walks-on d at p l r e = let s = stands d at p l e in rw (s.here, s.size) (seek-on d at s.n s.framed r)
@@ -53,7 +53,7 @@ pub ends-lost : (d : List ℕ) (at r x : ℕ) → seek d 0 at ≡ lost x → see
 ends-lost d at r x e = by (ltb at (length d)) refl
   where
     by : (t : Bool) → ltb at (length d) ≡ t → seek d r at ≡ lost x
-    by true h = seek_fault d r at x (omega (arith, borrow.Author.Tests.ltb-true at (length d) h)) (faulty d at x (omega (arith, borrow.Author.Tests.ltb-true at (length d) h)) e)
+    by true h = seek_fault d r at x (ltb-true at (length d) h) (faulty d at x (ltb-true at (length d) h) e)
     by false h =
         let past : length d ≤ at = ltb-false at (length d) h in
         seek_end d r at past ∙ sym (seek_end d 0 at past) ∙ e

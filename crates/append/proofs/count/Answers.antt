@@ -27,6 +27,11 @@ stopped d at k (Err x) m y h e was is =
     let wrong : y ≡ UsedWrong = cc in
     rw wrong (sym (records_fault d at k (number x) h (faulty d at (number x) h (sym e))))
 
+counts-on : (d : List ℕ) (at p l k : ℕ) → seek d 0 at ≡ found p l → records d (p + l) (k + 1) ≡ records d at k
+counts-on d at p l k e =
+    let s = stands d at p l e in
+    rw (s.here, s.size) (sym (records-more d at k s.n s.framed))
+
 pub loop-at-init : goal.loop-at-init
 unfolding records_in
 loop-at-init c = (omega arith, omega arith, refl)
@@ -46,15 +51,13 @@ overflow_add-at c =
 pub loop-at-smaller : goal.loop-at-smaller
 loop-at-smaller c =
     let here : found c.in_ok-passed.passed.at c.in_ok-passed.passed.size ≡ seek c.args.bytes.now 0 c.loop-at.at = search rules in
-    let s = stands _ _ _ _ (sym here) in
-    omega (arith, ends-within _ _ _ _ (sym here), s.here, s.size)
+    omega (arith, ends-within _ _ _ _ (sym here))
 
 pub loop-at-preserved : goal.loop-at-preserved
 loop-at-preserved c =
     let here : found c.in_ok-passed.passed.at c.in_ok-passed.passed.size ≡ seek c.args.bytes.now 0 c.loop-at.at = search rules in
-    let s = stands _ _ _ _ (sym here) in
-    let within = ends-within _ _ _ _ (sym here) in
-    (within.1, omega (arith, s.here, s.size), rw (s.here, s.size) (sym (records-more c.args.bytes.now c.loop-at.at c.loop-at.k s.n s.framed) ∙ c.loop-at.invariant.2))
+    let ends = ends-within _ _ _ _ (sym here) in
+    (ends.2, omega (arith, ends), counts-on _ _ _ _ c.loop-at.k (sym here) ∙ c.loop-at.invariant.2)
 
 pub returns : goal.returns
 returns c = sym (records_end (c.args.bytes.now) _ _ c.loop-at-test.false) ∙ c.loop-at.invariant.2

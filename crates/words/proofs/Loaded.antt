@@ -1,17 +1,14 @@
--- Bytes as one number: two numbers of j bytes each make one of twice as many.
+-- Bytes as one number, low byte first: its bits are theirs.
 -- Assumes nothing.
-use mathlib.Core.Path.{◌≡◌, sym}
-use Prim.Native.Nat.{ℕ, ◌+◌, ◌*◌, ◌^◌, ◌<◌}
-use native.Mathlib.Nat.{mul_comm}
+use mathlib.Core.Path.{◌≡◌, refl, ap}
+use Prim.Native.Nat.{ℕ, suc, ◌+◌, ◌*◌, ◌<◌}
 use native.Mathlib.Omega.{arith}
-use mathlib.Core.List.{List, append-nil}
-use lib.Arith.{digits_lt}
-use lib.ListN.{length, take, drop, get_or}
-use lib.Pow.{pow-add}
-use lib.Seq.{take-add, drop-drop, drop-cons}
+use mathlib.Core.List.{List, [], ◌∷◌, append-nil}
+use lib.ListN.{length, take, drop, get_or, drop_of_length-le}
+use lib.Dec.{lit<}
+use lib.Seq.{drop-cons}
+use Rattle.std.specs.Int.{w64, from_le_bytes}
 use Rattle.rules.specs.Bytes.{low_bits, all_bits}
-use Rattle.rules.proofs.Bytes.{all_bits-append}
-use Rattle.words.specs.Words.{Loads}
 use Rattle.words.proofs.Low.{low_bits-join}
 
 -- one byte
@@ -19,17 +16,32 @@ pub one_byte : (bs : List ℕ) (at : ℕ) → at < length bs → all_bits (take 
 unfolding all_bits
 one_byte bs at h = rw (drop-cons bs at 0 h) (append-nil (low_bits 8 (get_or bs at 0)))
 
-pub loads_one : (bs : List ℕ) (at r : ℕ) → at < length bs → r ≡ get_or bs at 0 → r < 256 → Loads 1 bs at r
-loads_one bs at r h e l = record { fits = l; bits = rw e (sym (one_byte bs at h)) }
+-- the number of these bytes
+worth : List ℕ → ℕ
+worth [] = 0
+worth (b ∷ bs) = b + 256 * worth bs
 
-pub loads_join : (j : ℕ) (bs : List ℕ) (at a b : ℕ) → Loads j bs at a → Loads j bs (at + j) b → Loads (j + j) bs at (a + 2 ^ (8 * j) * b)
-loads_join j bs at a b low high =
-    let w = 8 * j in
-    let e : 8 * (j + j) ≡ w + w = omega arith in
-    let f : a + 2 ^ w * b ≡ b * 2 ^ w + a = rw (mul_comm (2 ^ w) b) (omega arith) in
-    record {
-      fits = rw (e, f, pow-add 2 w w) (digits_lt high.fits low.fits);
-      bits =
-          rw (e, low_bits-join w w a b low.fits, low.bits, high.bits, take-add j j (drop at bs), drop-drop j at bs)
-          (sym (all_bits-append (take j (drop at bs)) (take j (drop (at + j) bs))));
-    }
+worth-bits : (bs : List ℕ) → ((k : ℕ) → k < length bs → get_or bs k 0 < 256) → low_bits (8 * length bs) (worth bs) ≡ all_bits bs
+unfolding worth all_bits
+worth-bits [] small = unfold low_bits in refl
+worth-bits (b ∷ bs) small =
+    let e : 8 * suc (length bs) ≡ 8 + 8 * length bs = omega arith in
+    rw (e, low_bits-join 8 (8 * length bs) b (worth bs) (small 0 (omega arith)), worth-bits bs (λ k h. small (suc k) (omega arith)))
+
+module _ (bs : List ℕ) (long : length bs ≡ 8) where
+  next : (i : ℕ) → i < 8 → worth (drop i bs) ≡ get_or bs i 0 + 256 * worth (drop (suc i) bs)
+  unfolding worth
+  next i h = ap worth (drop-cons bs i 0 (omega arith))
+
+  end : worth (drop 8 bs) ≡ 0
+  unfolding worth
+  end = ap worth (drop_of_length-le bs {i = 8} (omega arith))
+
+  is_worth : from_le_bytes w64 bs ≡ worth bs
+  is_worth =
+      omega (arith, next 0 (lit< tt), next 1 (lit< tt), next 2 (lit< tt), next 3 (lit< tt), next 4 (lit< tt), next 5 (lit< tt), next 6 (lit< tt), next 7 (lit< tt), end)
+
+  pub loaded : ((k : ℕ) → k < 8 → get_or bs k 0 < 256) → low_bits 64 (from_le_bytes w64 bs) ≡ all_bits bs
+  loaded small =
+      let e = worth-bits bs (λ k h. small k (omega arith)) in
+      rw is_worth (rw long at e)

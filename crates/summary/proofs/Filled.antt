@@ -8,8 +8,8 @@ use mathlib.Core.Bool.{Bool, true, false, cond}
 use mathlib.Core.List.{List, ◌++◌}
 use borrow.Author.Tests.{lt-ltb, le-ltb, ltb-false}
 use lib.Dec.{ltb}
-use lib.ListN.{length, take, drop, get_or, take-append-drop}
-use lib.Seq.{ext_get_or, get_or-take, take_all, length-take-le}
+use lib.ListN.{length, drop, get_or}
+use lib.Seq.{ext_get_or, take_all}
 use Rattle.rules.specs.Shape.{Paren}
 use Rattle.rules.specs.Excess.{closings}
 use Rattle.rules.specs.Bytes.{parens}
@@ -23,18 +23,9 @@ use Rattle.answers.specs.declared.Refusal.TheVariants.{WorkShort}
 use Rattle.std.specs.Prelude.{Ok, Err}
 use Rattle.answers.specs.Said.{number}
 use Rattle.summary.specs.Fills.{Fills}
-use Rattle.summary.specs.Laid.{Taken, Holds, Lays, Grows, laid, laid_to, grown_to}
+use Rattle.summary.specs.Laid.{Holds, Lays, Grows, laid, laid_to, grown_to}
 use Rattle.summary.proofs.Slots.{held}
 use Rattle.summary.proofs.Growing.{grown_past, grown_all}
-
-pub taken : {r t : List ℕ} {n : ℕ} → check_says r ≡ answer n → slots ≤ length t → Taken r n t
-taken {r} {t} {n} e room =
-    let checked = says_checked r n e in
-    record {
-      whole = record { few = checked.framed.few; exact = checked.whole };
-      balance = checked.balance;
-      room = room;
-    }
 
 -- ---- before the first block
 
@@ -102,28 +93,26 @@ module _ (s : List Paren) (n : ℕ) (long : length s ≡ 2 * n) where
 
 -- ---- the summary
 
-held-summary : (s : List Paren) {t₀ t : List ℕ} → slots ≤ length t₀ → Holds (slot s) t₀ t → t ≡ summary_of s ++ drop slots t₀
-held-summary s {t₀} {t} room h =
-    let long : length (take slots t) ≡ length (summary_of s) = length-take-le slots t (omega (arith, h.size)) ∙ sym (summary-length s) in
-    let first : take slots t ≡ summary_of s = ext_get_or 0 (take slots t) (summary_of s) long (λ x l. at x (omega (arith, summary-length s))) in
-    sym (take-append-drop slots t) ∙ rw (first, h.rest)
+held-summary : (s : List Paren) {t : List ℕ} → Holds (slot s) t → t ≡ summary_of s
+held-summary s {t} h =
+    ext_get_or 0 t (summary_of s) (h.size ∙ sym (summary-length s)) (λ x l. at x (omega (arith, h.size)))
   where
-    at : (x : ℕ) → x < slots → get_or (take slots t) x 0 ≡ get_or (summary_of s) x 0
-    at x l = get_or-take slots t x 0 l ∙ h.first x l ∙ sym (summary_at s x l)
+    at : (x : ℕ) → x < slots → get_or t x 0 ≡ get_or (summary_of s) x 0
+    at x l = h.first x l ∙ sym (summary_at s x l)
 
-pub filled : {r t t₁ t₂ t₃ : List ℕ} {n : ℕ} → check_says r ≡ answer n → slots ≤ length t → Holds (λ x. none) t t₁
-    → Lays (parens n r) 0 (blocks_for n) t₁ t₂ → Grows 0 t₂ t₃ → Fills r t (Ok n) t₃
+pub filled : {r t t₁ t₂ t₃ : List ℕ} {n : ℕ} → check_says r ≡ answer n → slots ≤ length t → Holds (λ x. none) t₁
+    → Lays (parens n r) 0 (blocks_for n) t₁ t₂ → Grows 0 t₂ t₃ → Fills r t (Ok n) (t₃ ++ drop slots t)
 unfolding fill_says summary_after
 filled {r} {t} {t₁} {t₂} {t₃} {n} e room blank lays grows =
     let s = parens n r in
     let checked = says_checked r n e in
     let long : length s ≡ 2 * n = parens-length r n checked.framed.long in
-    let blocks : Holds (laid_to s (blocks_for n)) t t₂ = lays.holds t (held (laid_to s 0) blank (λ x l. laid_none s x)) in
-    let tree : Holds (grown_to s 0) t t₃ = grows.holds s t (held (grown_to s 255) blocks (λ x l. laid_all s n long x)) in
-    let whole : Holds (slot s) t t₃ = held (slot s) tree (λ x l. sym (grown_all s x)) in
+    let blocks : Holds (laid_to s (blocks_for n)) t₂ = lays.holds (held (laid_to s 0) blank (λ x l. laid_none s x)) in
+    let tree : Holds (grown_to s 0) t₃ = grows.holds s (held (grown_to s 255) blocks (λ x l. laid_all s n long x)) in
+    let whole : Holds (slot s) t₃ = held (slot s) tree (λ x l. sym (grown_all s x)) in
     record {
       says = rw (e, le-ltb (length t) slots room);
-      summary = rw (e, le-ltb (length t) slots room, checked.framed.says) (held-summary s room whole);
+      summary = rw (e, le-ltb (length t) slots room, checked.framed.says, held-summary s whole);
     }
 
 pub refused : {r : List ℕ} (t : List ℕ) (x : Refusal) → check_says r ≡ refusal (number x) → Fills r t (Err x) t

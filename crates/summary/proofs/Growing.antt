@@ -7,9 +7,9 @@ use mathlib.Core.Bool.{Bool, true, false, cond}
 use mathlib.Core.List.{List}
 use borrow.Author.Tests.{lt-ltb, le-ltb, ltb-true}
 use lib.Dec.{ltb}
-use lib.ListN.{length, get_or, set}
+use lib.ListN.{get_or, set}
 use Rattle.rules.specs.Shape.{Paren}
-use Rattle.rules.specs.Summary.{slots, none, slot}
+use Rattle.rules.specs.Summary.{none, slot}
 use Rattle.rules.proofs.Summary.{slot-node, node-halves}
 use Rattle.summary.specs.Laid.{Holds, grown_to, Grows}
 use Rattle.summary.proofs.Slots.{same_test, stored}
@@ -37,11 +37,11 @@ slot-halves s v some small =
     ∙ node-halves s v some small
     ∙ rw (← e, slot-node s (2 * v) (omega arith) (omega arith), slot-node s (2 * v + 1) (omega arith) (omega arith))
 
-grown-node : (s : List Paren) {t₀ t : List ℕ} (v : ℕ) → slots ≤ length t₀ → 0 < v → v < 256 → Holds (grown_to s v) t₀ t
-    → Holds (grown_to s (v - 1)) t₀ (set t (256 + v) (min (get_or t (256 + 2 * v) 0) (get_or t (257 + 2 * v) 0)))
+grown-node : (s : List Paren) {t : List ℕ} (v : ℕ) → 0 < v → v < 256 → Holds (grown_to s v) t
+    → Holds (grown_to s (v - 1)) (set t (256 + v) (min (get_or t (256 + 2 * v) 0) (get_or t (257 + 2 * v) 0)))
 unfolding grown_to
-grown-node s {t₀} {t} v room some small h =
-    stored (grown_to s (v - 1)) (256 + v) (min (get_or t (256 + 2 * v) 0) (get_or t (257 + 2 * v) 0)) h (omega arith) room here
+grown-node s {t} v some small h =
+    stored (grown_to s (v - 1)) (256 + v) (min (get_or t (256 + 2 * v) 0) (get_or t (257 + 2 * v) 0)) h (omega arith) here
     (λ x l n. rw (same_test x (257 + (v - 1)) (257 + v) (λ a. omega arith) (λ a. omega arith)))
   where
     here : grown_to s (v - 1) (256 + v) ≡ min (get_or t (256 + 2 * v) 0) (get_or t (257 + 2 * v) 0)
@@ -51,9 +51,9 @@ grown-node s {t₀} {t} v room some small h =
         ∙ rw (h.first (256 + 2 * v) (omega arith), h.first (257 + 2 * v) (omega arith), grown_past s v (256 + 2 * v) (omega arith), grown_past s v (257 + 2 * v) (omega arith))
 
 pub grows_none : (t : List ℕ) → Grows 255 t t
-grows_none t = record { holds = λ s t₀ h. h }
+grows_none t = record { holds = λ s h. h }
 
-pub grows_on : {t t' : List ℕ} (v x : ℕ) → slots ≤ length t' → 0 < v → v < 256 → Grows v t t' → x ≡ min (get_or t' (256 + 2 * v) 0) (get_or t' (257 + 2 * v) 0)
+pub grows_on : {t t' : List ℕ} (v x : ℕ) → 0 < v → v < 256 → Grows v t t' → x ≡ min (get_or t' (256 + 2 * v) 0) (get_or t' (257 + 2 * v) 0)
     → Grows (v - 1) t (set t' (256 + v) x)
-grows_on v x room some small grows e =
-    record { holds = λ s t₀ h. rw e (grown-node s v (let z = (grows.holds s t₀ h).size in omega arith) some small (grows.holds s t₀ h)) }
+grows_on v x some small grows e =
+    record { holds = λ s h. rw e (grown-node s v some small (grows.holds s h)) }

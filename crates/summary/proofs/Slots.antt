@@ -1,49 +1,45 @@
 -- One number stored: what the slots held before, and what they hold after it.
 -- Assumes nothing.
-use mathlib.Core.Path.{◌≡◌, refl, ap, sym, subst, ◌∙◌}
+use mathlib.Core.Path.{◌≡◌, refl, sym, ◌∙◌}
 use Prim.Native.Nat.{ℕ, ◌+◌, ◌-◌, ◌*◌, ◌/◌, ◌≤◌, ◌<◌}
 use native.Mathlib.Decide.{ℕ_discrete, dec_lt}
 use native.Mathlib.Omega.{arith}
 use mathlib.Core.Bool.{Bool, true, false, cond}
-use mathlib.Core.List.{List, ◌++◌}
+use mathlib.Core.List.{List}
 use borrow.Author.Tests.{lt-ltb, le-ltb, ltb-true, ltb-false}
 use lib.Dec.{ltb}
-use lib.ListN.{length, drop, get_or, set, replicate, length-append, length-drop, length-set, length-replicate, get_or-replicate, get_or-append}
-use lib.Seq.{get_or-set_same, get_or-set_other, drop-set-lt, drop_at}
+use lib.ListN.{length, take, get_or, set, replicate, length-set, length-replicate, get_or-replicate}
+use lib.Seq.{length-take-le, get_or-set_same, get_or-set_other}
 use Rattle.rules.specs.Shape.{Paren}
 use Rattle.rules.specs.Excess.{closing_place}
 use Rattle.rules.specs.Bytes.{most}
 use Rattle.rules.specs.Summary.{slots, none, block_end, leaf}
 use Rattle.rules.proofs.ClosingPlace.{closings-more, closings_few, closings_part, closing_behind, closing-among}
+use Rattle.summary.specs.declared.block.Block.{Block}
+use Rattle.summary.specs.Reads.{Reads}
 use Rattle.summary.specs.Laid.{Holds, Lays, laid, closed, laid_to, noted}
 
 -- a number stored at y
-pub stored : {f : ℕ → ℕ} {t₀ t : List ℕ} (g : ℕ → ℕ) (y v : ℕ) → Holds f t₀ t → y < slots → slots ≤ length t₀ → g y ≡ v
-    → ((x : ℕ) → x < slots → (x ≡ y → ⊥) → g x ≡ f x) → Holds g t₀ (set t y v)
-stored {f} {t₀} {t} g y v h l room here there =
-    record {
-      size = length-set t y v ∙ h.size;
-      first = λ x a. at x a (ℕ_discrete x y);
-      rest = drop-set-lt slots t y v l ∙ h.rest;
-    }
+pub stored : {f : ℕ → ℕ} {t : List ℕ} (g : ℕ → ℕ) (y v : ℕ) → Holds f t → y < slots → g y ≡ v → ((x : ℕ) → x < slots → (x ≡ y → ⊥) → g x ≡ f x)
+    → Holds g (set t y v)
+stored {f} {t} g y v h l here there =
+    record { size = length-set t y v ∙ h.size; first = λ x a. at x a (ℕ_discrete x y) }
   where
     at : (x : ℕ) → x < slots → Dec (x ≡ y) → get_or (set t y v) x 0 ≡ g x
     at x a (yes e) = rw e (get_or-set_same t y v 0 (omega (arith, h.size)) ∙ sym here)
     at x a (no n) = get_or-set_other t y x v 0 n ∙ h.first x a ∙ sym (there x a n)
 
 -- the same slots by another rule
-pub held : {f : ℕ → ℕ} {t₀ t : List ℕ} (g : ℕ → ℕ) → Holds f t₀ t → ((x : ℕ) → x < slots → g x ≡ f x) → Holds g t₀ t
-held g h e =
-    record { size = h.size; first = λ x a. h.first x a ∙ sym (e x a); rest = h.rest }
+pub held : {f : ℕ → ℕ} {t : List ℕ} (g : ℕ → ℕ) → Holds f t → ((x : ℕ) → x < slots → g x ≡ f x) → Holds g t
+held g h e = record { size = h.size; first = λ x a. h.first x a ∙ sym (e x a) }
 
--- 65,535 in the first 896
-pub blanked : {t₀ t : List ℕ} (x : ℕ) → x ≡ slots → slots ≤ length t₀ → t ≡ replicate x none ++ drop x t₀ → Holds (λ y. none) t₀ t
-blanked {t₀} {t} x e room f =
-    let n = length-replicate x none in
+-- the first 896 numbers of a longer summary, each 65,535
+pub blanked : (t : List ℕ) {t₀ t₁ : List ℕ} → slots ≤ length t → t₀ ≡ take slots t → t₁ ≡ replicate (length t₀) none → Holds (λ y. none) t₁
+blanked t {t₀} {t₁} room part e =
+    let size : length t₀ ≡ slots = rw part (length-take-le slots t room) in
     record {
-      size = ap length f ∙ simp (length-append, length-drop) (omega arith);
-      first = λ y l. rw (f, get_or-append (replicate x none) (drop x t₀) 0 y (omega arith)) (get_or-replicate x y none 0 (omega arith));
-      rest = rw f (subst (λ (m : ℕ). drop m (replicate x none ++ drop x t₀) ≡ drop m t₀) e (drop_at (replicate x none) (drop x t₀) x n));
+      size = rw e (rw length-replicate size);
+      first = λ y l. rw e (get_or-replicate (length t₀) y none 0 (omega arith));
     }
 
 -- ---- a block's numbers
@@ -56,18 +52,18 @@ same_test x a b f g = by (dec_lt x a)
     by (yes l) = lt-ltb x a l ∙ sym (lt-ltb x b (f l))
     by (no n) = le-ltb x a (omega arith) ∙ sym (le-ltb x b (let h : x < b → ⊥ = λ l. n (g l) in omega arith))
 
-module _ (s : List Paren) {t₀ : List ℕ} (room : slots ≤ length t₀) where
-  end_laid : {t : List ℕ} (k l c : ℕ) → k < 256 → Holds (laid s k l c) t₀ t → Holds (laid s (k + 1) l c) t₀ (set t k (block_end s k))
+module _ (s : List Paren) where
+  end_laid : {t : List ℕ} (k l c : ℕ) → k < 256 → Holds (laid s k l c) t → Holds (laid s (k + 1) l c) (set t k (block_end s k))
   unfolding laid
   end_laid k l c small h =
-      stored (laid s (k + 1) l c) k (block_end s k) h (omega arith) room
+      stored (laid s (k + 1) l c) k (block_end s k) h (omega arith)
       (rw (lt-ltb k 256 small, lt-ltb k (k + 1) (omega arith)))
       (λ x a n. rw (same_test x (k + 1) k (λ b. omega arith) (λ b. omega arith)))
 
-  leaf-laid : {t : List ℕ} (k a c : ℕ) → k < 256 → Holds (laid s a k c) t₀ t → Holds (laid s a (k + 1) c) t₀ (set t (512 + k) (leaf s k))
+  leaf-laid : {t : List ℕ} (k a c : ℕ) → k < 256 → Holds (laid s a k c) t → Holds (laid s a (k + 1) c) (set t (512 + k) (leaf s k))
   unfolding laid
   leaf-laid k a c small h =
-      stored (laid s a (k + 1) c) (512 + k) (leaf s k) h (omega arith) room here (λ x l n. there x n (ltb x 512) refl)
+      stored (laid s a (k + 1) c) (512 + k) (leaf s k) h (omega arith) here (λ x l n. there x n (ltb x 512) refl)
     where
       here : laid s a (k + 1) c (512 + k) ≡ leaf s k
       here =
@@ -82,7 +78,7 @@ module _ (s : List Paren) {t₀ : List ℕ} (room : slots ≤ length t₀) where
 
   -- of the closings c to d - 1, 256 at most, one at most has a slot; all stand in block k
   closing-laid : {t : List ℕ} (k a l c d : ℕ) → c ≤ d → d ≤ c + 256 → d ≤ most → ((i : ℕ) → c ≤ i → i < d → closing_place s i / 256 ≡ k)
-      → Holds (laid s a l c) t₀ t → Holds (laid s a l d) t₀ (cond (ltb (256 * ((c + 255) / 256)) d) (set t (768 + (c + 255) / 256) k) t)
+      → Holds (laid s a l c) t → Holds (laid s a l d) (cond (ltb (256 * ((c + 255) / 256)) d) (set t (768 + (c + 255) / 256) k) t)
   unfolding laid
   closing-laid {t} k a l c d some near few block h = by (ltb (256 * y) d) refl
     where
@@ -95,11 +91,11 @@ module _ (s : List Paren) {t₀ : List ℕ} (room : slots ≤ length t₀) where
           let g = ltb-false x 768 e in
           rw (same_test (256 * (x - 768)) d c (λ b. omega arith) (λ b. omega arith))
 
-      by : (b : Bool) → ltb (256 * y) d ≡ b → Holds (laid s a l d) t₀ (cond b (set t (768 + y) k) t)
+      by : (b : Bool) → ltb (256 * y) d ≡ b → Holds (laid s a l d) (cond b (set t (768 + y) k) t)
       by true e =
           let g = ltb-true (256 * y) d e in
           let f : 768 + y - 768 ≡ y = omega arith in
-          stored (laid s a l d) (768 + y) k h (omega arith) room
+          stored (laid s a l d) (768 + y) k h (omega arith)
           (rw (le-ltb (768 + y) 256 (omega arith), le-ltb (768 + y) 512 (omega arith), le-ltb (768 + y) 768 (omega arith), f, e) (block (256 * y) (omega arith) g))
           (λ x u n. there x n (ltb x 768) refl)
       by false e =
@@ -107,8 +103,8 @@ module _ (s : List Paren) {t₀ : List ℕ} (room : slots ≤ length t₀) where
           held (laid s a l d) h (λ x u. rw (same_test (256 * (x - 768)) d c (λ b. omega arith) (λ b. omega arith)))
 
   -- all that block k gives
-  pub block-laid : {t : List ℕ} (k : ℕ) → k < 256 → closed s (k + 1) ≤ most → Holds (laid_to s k) t₀ t
-      → Holds (laid_to s (k + 1)) t₀ (noted t k (closed s k) (closed s (k + 1)) (block_end s k) (leaf s k))
+  pub block-laid : {t : List ℕ} (k : ℕ) → k < 256 → closed s (k + 1) ≤ most → Holds (laid_to s k) t
+      → Holds (laid_to s (k + 1)) (noted t k (closed s k) (closed s (k + 1)) (block_end s k) (leaf s k))
   block-laid k small few h =
       let e : 256 * (k + 1) ≡ 256 * k + 256 = omega arith in
       let near : closed s (k + 1) ≤ closed s k + 256 = rw e (closings_few s (256 * k) 256) in
@@ -120,16 +116,9 @@ module _ (s : List Paren) {t₀ : List ℕ} (room : slots ≤ length t₀) where
           omega (arith, closing_behind s i (256 * k) from (omega (arith, closings_part s (256 * (k + 1)))), closing-among s i (256 * (k + 1)) upto)
 
 pub lays_none : (s : List Paren) (k : ℕ) (t : List ℕ) → Lays s k k t t
-lays_none s k t = record { holds = λ t₀ h. h }
+lays_none s k t = record { holds = λ h. h }
 
-pub lays-join : {s : List Paren} {i j k : ℕ} {t t' t'' : List ℕ} → Lays s i j t t' → Lays s j k t' t'' → Lays s i k t t''
-lays-join f g = record { holds = λ t₀ h. g.holds t₀ (f.holds t₀ h) }
-
-pub lays-on : {s : List Paren} {t t' t'' : List ℕ} {j k c d e m : ℕ} → Lays s j k t t' → slots ≤ length t' → k < 256 → closed s (k + 1) ≤ most
-    → c ≡ closed s k → d ≡ closed s (k + 1) → e ≡ block_end s k → m ≡ leaf s k → t'' ≡ noted t' k c d e m → Lays s j (k + 1) t t''
-lays-on {s} {t} {t'} {t''} {j} {k} lays room small few c-is d-is e-is m-is stores =
-    record { holds = λ t₀ h. on t₀ (lays.holds t₀ h) }
-  where
-    on : (t₀ : List ℕ) → Holds (laid_to s k) t₀ t' → Holds (laid_to s (k + 1)) t₀ t''
-    on t₀ h =
-        rw (stores, c-is, d-is, e-is, m-is) (block-laid s (let z = h.size in omega arith) k small few h)
+pub lays-on : {s : List Paren} {t t' t'' : List ℕ} {j k : ℕ} {b : Block} → k < 256 → b.upto ≤ most → Lays s j k t t' → Reads s k b
+    → t'' ≡ noted t' k b.from b.upto b.end b.least → Lays s j (k + 1) t t''
+lays-on {s} {t} {t'} {t''} {j} {k} small few lays reads stores =
+    record { holds = λ h. rw (stores, reads.from, reads.upto, reads.end, reads.least) (block-laid s k small (omega (arith, reads.upto)) (lays.holds h)) }

@@ -1,23 +1,14 @@
 -- The slots on the way to a summary: what stands in them while the blocks are read and while the tree grows.
-use Rattle.std.specs.Prelude.{◌≡◌, ℕ, ◌+◌, ◌-◌, ◌*◌, ◌/◌, ◌≤◌, ◌<◌, cond, List, ltb, length, take, drop, get_or, set}
+use Rattle.std.specs.Prelude.{◌≡◌, ℕ, ◌+◌, ◌-◌, ◌*◌, ◌/◌, ◌<◌, cond, List, ltb, length, take, get_or, set}
 use Rattle.rules.specs.Shape.{Paren}
-use Rattle.rules.specs.Excess.{closings, closing_place, Balanced}
-use Rattle.rules.specs.Bytes.{parens}
+use Rattle.rules.specs.Excess.{closings, closing_place}
 use Rattle.rules.specs.Summary.{slots, none, block_end, leaf, slot}
 use Rattle.scan.specs.declared.Scan.{Scan}
-use Rattle.checks.specs.Inside.{Whole}
 
--- a record that passed its check, and a summary with room
-pub record Taken (r : List ℕ) (n : ℕ) (t : List ℕ) : Type 0 where
-  pub whole : Whole r n
-  pub balance : Balanced (parens n r)
-  pub room : slots ≤ length t
-
--- the first 896 numbers of t are f's; behind them t is as t₀
-pub record Holds (f : ℕ → ℕ) (t₀ t : List ℕ) : Type 0 where
-  pub size : length t ≡ length t₀
+-- the 896 numbers t are f's
+pub record Holds (f : ℕ → ℕ) (t : List ℕ) : Type 0 where
+  pub size : length t ≡ slots
   pub first : (x : ℕ) → x < slots → get_or t x 0 ≡ f x
-  pub rest : drop slots t ≡ drop slots t₀
 
 -- ---- block by block
 
@@ -37,19 +28,9 @@ closed s k = closings (take (256 * k) s)
 abbrev pub laid_to : List Paren → ℕ → ℕ → ℕ
 laid_to s k x = laid s k k (closed s k) x
 
--- from the first j blocks to the first k, whatever stood there before
+-- from the first j blocks to the first k
 pub record Lays (s : List Paren) (j k : ℕ) (t t' : List ℕ) : Type 0 where
-  pub holds : (t₀ : List ℕ) → Holds (laid_to s j) t₀ t → Holds (laid_to s k) t₀ t'
-
--- the excess before block k is x, counted from 65,536: each closing takes two from the number of parentheses
-pub record Before (s : List Paren) (k x : ℕ) : Type 0 where
-  pub high : 65536 ≤ x
-  pub excess : x + 2 * closed s k ≡ 65536 + 256 * k
-
--- the first k blocks, and the excess behind them
-pub record Reaches (s : List Paren) (k : ℕ) (t t' : List ℕ) (x : ℕ) : Type 0 where
-  pub before : Before s k x
-  pub lays : Lays s 0 k t t'
+  pub holds : Holds (laid_to s j) t → Holds (laid_to s k) t'
 
 -- the scan of a block starts at the excess before it, with a smallest above every excess
 abbrev pub fresh_at : ℕ → Scan
@@ -69,4 +50,4 @@ grown_to s v x = cond (ltb 256 x) (cond (ltb x (257 + v)) none (slot s x)) (slot
 
 -- from the nodes 1 to 255 to the nodes 1 to v, whatever the summary
 pub record Grows (v : ℕ) (t t' : List ℕ) : Type 0 where
-  pub holds : (s : List Paren) (t₀ : List ℕ) → Holds (grown_to s 255) t₀ t → Holds (grown_to s v) t₀ t'
+  pub holds : (s : List Paren) → Holds (grown_to s 255) t → Holds (grown_to s v) t'

@@ -1,2 +1,3 @@
 pub mod Fills
 pub mod Laid
+pub mod Reads

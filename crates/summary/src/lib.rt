@@ -1,139 +1,110 @@
 // Fill: the summary of a record, in one pass over its bytes and one over the tree.
 #![tactic(auto)]
 
-ghost use Rattle.std.specs.Prelude.{◌≡◌, min, ◌+◌, ◌*◌, ◌/◌, ◌≤◌, ◌<◌, length};
-ghost use Rattle.rules.specs.Bytes.{most, parens};
-ghost use Rattle.rules.specs.Summary.{slots, none, blocks_for};
-ghost use Rattle.scan.specs.Rows.{rows};
+mod block;
+
+ghost use Rattle.std.specs.Prelude.{◌≡◌, ◌+◌, ◌-◌, ◌*◌, ◌/◌, ◌%◌, ◌≤◌, ◌<◌};
+ghost use Rattle.rules.specs.Bytes.{parens};
+ghost use Rattle.rules.specs.Summary.{blocks_for};
 ghost use Rattle.summary.specs.Fills.{Fills};
-ghost use Rattle.summary.specs.Laid.{Taken, Holds, Lays, Before, Reaches, Grows, fresh_at, noted};
+ghost use Rattle.summary.specs.Laid.{Lays, Grows, closed, fresh_at};
+ghost use Rattle.summary.specs.Reads.{Reads};
 
-use answers::{Answer, Refusal};
-use scan::Scan;
-
-// Excesses are counted from here, as in the record check.
-const GROUND: usize = 65536;
+use answers::Refusal;
+use block::Block;
+use checks::record::Record;
+use scan::{GROUND, Scan};
 
 // The record's summary in the first 896 numbers, and n; or the first refusal of document 01's order. It takes a
 // number of steps in proportion to n.
-pub fn fill(bytes: &[u8], summary: &mut [u16]) -> Answer
+pub fn fill(bytes: &[u8], summary: &mut [u16]) -> Result<usize, Refusal>
     ensures { Fills bytes.now summary.old result summary.new }
 {
-    let t = scan::table();
-    match checks::check_through(&t, bytes) {
-        Answer::Is(n) => {
-            if summary.len() < 896 {
-                return Answer::Refused(Refusal::WorkShort);
-            }
-            blank(summary);
-            blocks(&t, bytes, n, summary);
-            tree(summary);
-            Answer::Is(n)
-        }
-        Answer::Refused(r) => Answer::Refused(r),
-    }
+    let checked = Record::of(bytes)?;
+    let Some(slots) = summary.first_chunk_mut() else {
+        return Err(Refusal::WorkShort);
+    };
+    slots.fill(65535);
+    blocks(checked, slots);
+    tree(slots);
+    Ok(checked.entries)
 }
 
-// No block, no closing: 65,535 in each slot.
-fn blank(summary: &mut [u16])
-    requires { slots ≤ length summary.old }
-    ensures { Holds (λ x. none) summary.old summary.new }
+// All slots but the tree's inner nodes: one pass over the bytes.
+#[tactic(auto, using(crate::proofs::Sizes::blocks))]
+fn blocks(checked: Record, slots: &mut [u16; 896])
+    ensures { Lays (parens checked.entry.entries checked.entry.bytes.now) 0 (blocks_for checked.entry.entries) slots.old slots.new }
 {
-    let mut x = 0;
-    while x < 896 {
-        summary[x] = 65535;
-        x += 1;
+    let n = checked.entries;
+    let mut passed = 0;
+    for k in 0..n / 128 {
+        let block = whole(checked, k, passed);
+        block.note(k, slots);
+        passed = block.upto;
+    }
+    if 0 < n % 128 {
+        last(checked, passed).note(n / 128, slots);
     }
 }
 
-// What block k gives: its end, its leaf, and k itself for the closing between c and d whose number is a
-// multiple of 256. There is one at most: a block has no more than 256 closings.
-fn note(summary: &mut [u16], k: usize, c: usize, d: usize, end: usize, smallest: usize)
-    requires { (slots ≤ length summary.old) × (k < 256) × (c ≤ d) × (d ≤ most) × (end ≤ none) × (smallest ≤ none) }
-    ensures { summary.new ≡ noted summary.old k c d end smallest }
+// Block k with its 256 parentheses, behind the closings passed.
+#[tactic(auto, using(crate::proofs::Sizes::blocks, crate::proofs::Sizes::exact))]
+fn whole(checked: Record, k: usize, passed: usize) -> Block
+    requires { (k < checked.entries / 128) × (passed ≡ closed (parens checked.entries checked.bytes.now) k) }
+    ensures { Reads (parens checked.entry.entries checked.entry.bytes.now) k result }
 {
-    summary[k] = end as u16;
-    summary[512 + k] = smallest as u16;
-    let x = (c + 255) / 256;
-    if 256 * x < d {
-        summary[768 + x] = k as u16;
+    let at = 4 + 32 * k;
+    let to = at + 32;
+    let st = fresh(k, passed).bytes(&checked.bytes[at..to], 0);
+    Block {
+        from: passed,
+        upto: (256 * k + 256 + GROUND - st.excess) / 2,
+        end: (st.excess - GROUND) as u16,
+        least: (st.smallest - GROUND) as u16,
     }
 }
 
-// The blocks of 256 parentheses. It gives back the excess behind them.
-fn whole(t: &scan::RowTable, bytes: &[u8], n: usize, summary: &mut [u16]) -> usize
-    requires { (t.now ≡ rows) × Taken bytes.now n summary.old }
-    ensures { Reaches (parens n bytes.now) (n / 128) summary.old summary.new result }
+// The last block, where it is short, behind the closings passed. It ends at an excess of 0 and with closing n - 1.
+// The unused bits of its last byte are read as openings, which are never the smallest.
+#[tactic(auto, using(crate::proofs::Sizes::blocks, crate::proofs::Sizes::exact))]
+fn last(checked: Record, passed: usize) -> Block
+    requires { (0 < checked.entries % 128) × (passed ≡ closed (parens checked.entries checked.bytes.now) (checked.entries / 128)) }
+    ensures { Reads (parens checked.entry.entries checked.entry.bytes.now) (checked.entry.entries / 128) result }
 {
-    let mut excess = GROUND;
-    let mut k = 0;
-    while k < n / 128 {
-        let at = 4 + 32 * k;
-        let to = at + 32;
-        let st = fresh(excess).bytes(t, &bytes[at..to], 0);
-        let c = (256 * k + GROUND - excess) / 2;
-        let d = (256 * k + 256 + GROUND - st.excess) / 2;
-        note(summary, k, c, d, st.excess - GROUND, st.smallest - GROUND);
-        excess = st.excess;
-        k += 1;
+    let n = checked.entries;
+    let k = n / 128;
+    let at = 4 + 32 * k;
+    let end = checked.bytes.len() - 1;
+    let spare = (8 - 2 * (n % 4)) % 8;
+    let st = fresh(k, passed).bytes(&checked.bytes[at..end], 0);
+    let tail = checked.bytes[end];
+    let opened = scan::mask::opened(tail, 8 - (spare as u32));
+    let low = st.byte(8 * (end - at), opened);
+    Block {
+        from: passed,
+        upto: n,
+        end: 0,
+        least: (low.smallest - GROUND) as u16,
     }
-    excess
 }
 
-// The scan of a block starts with a smallest above every excess.
-fn fresh(excess: usize) -> Scan
-    ensures { result ≡ fresh_at excess }
+// The scan of block k starts at the excess behind the closings passed, with a smallest above every excess.
+fn fresh(k: usize, passed: usize) -> Scan
+    requires { (k ≤ 256) × (2 * passed ≤ 256 * k) }
+    ensures { result ≡ fresh_at (65536 + (256 * k - 2 * passed)) }
 {
     Scan {
-        excess,
+        excess: GROUND + 256 * k - 2 * passed,
         smallest: GROUND + 65535,
         place: 0,
     }
 }
 
-// The last block, where it is short. It ends at an excess of 0 and with closing n - 1. The unused bits of its
-// last byte are read as openings, which are never the smallest.
-fn last(t: &scan::RowTable, bytes: &[u8], n: usize, excess: usize, summary: &mut [u16])
-    requires { (t.now ≡ rows) × Taken bytes.now n summary.old × Before (parens n bytes.now) (n / 128) excess × (128 * (n / 128) < n) }
-    ensures { Lays (parens n bytes.now) (n / 128) (n / 128 + 1) summary.old summary.new }
-{
-    let k = n / 128;
-    let at = 4 + 32 * k;
-    let end = bytes.len() - 1;
-    let spare = 8 * ((n + 3) / 4) - 2 * n;
-    let st = fresh(excess).bytes(t, &bytes[at..end], 0);
-    let tail = bytes[end];
-    let opened = scan::mask::opened(tail, 8 - (spare as u32));
-    let low = st.byte(t, 8 * (end - at), opened);
-    let c = (256 * k + GROUND - excess) / 2;
-    note(summary, k, c, n, 0, low.smallest - GROUND);
-}
-
-// All slots but the tree's inner nodes: one pass over the bytes.
-fn blocks(t: &scan::RowTable, bytes: &[u8], n: usize, summary: &mut [u16])
-    requires { (t.now ≡ rows) × Taken bytes.now n summary.old }
-    ensures { Lays (parens n bytes.now) 0 (blocks_for n) summary.old summary.new }
-{
-    let excess = whole(t, bytes, n, summary);
-    if 128 * (n / 128) < n {
-        last(t, bytes, n, excess, summary);
-    }
-}
-
-fn smaller(a: u16, b: u16) -> u16
-    ensures { result ≡ min a b }
-{
-    if a < b { a } else { b }
-}
-
 // The tree from the leaves to the root: node v has the smaller of nodes 2v and 2v + 1.
-fn tree(summary: &mut [u16])
-    requires { slots ≤ length summary.old }
-    ensures { Grows 0 summary.old summary.new }
+fn tree(slots: &mut [u16; 896])
+    ensures { Grows 0 slots.old slots.new }
 {
-    let mut v = 255;
-    while 0 < v {
-        summary[256 + v] = smaller(summary[256 + 2 * v], summary[257 + 2 * v]);
-        v -= 1;
+    for v in (1..256).rev() {
+        slots[256 + v] = slots[256 + 2 * v].min(slots[257 + 2 * v]);
     }
 }

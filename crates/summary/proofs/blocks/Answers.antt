@@ -1,22 +1,34 @@
--- `summary::blocks` meets its contract: the whole blocks, then the last one if it is short.
+-- `summary::blocks` meets its contract. The loop's invariant: the first k blocks are laid, and their closings passed.
 -- Assumes nothing.
 use mathlib.Core.Path.{◌≡◌}
 use Prim.Native.Nat.{◌+◌, ◌/◌}
 use native.Mathlib.Omega.{arith}
+use Rattle.rules.specs.Bytes.{parens}
 use Rattle.rules.specs.Summary.{blocks_for}
-use Rattle.summary.proofs.Slots.{lays-join}
+use Rattle.summary.proofs.Sizes.{few}
+use Rattle.summary.proofs.Slots.{lays_none, lays-on}
+use Rattle.summary.proofs.Reading.{none_closed}
 use Rattle.summary.proofs.blocks.Goals as goal
 
-pub last-requires : goal.last-requires
-last-requires c =
-    (c.requires.0, record { whole = c.requires.1.whole; balance = c.requires.1.balance; room = omega arith }, c.whole-excess.ensures.before, omega arith)
+pub loop-k-init : goal.loop-k-init
+loop-k-init c =
+    let s = parens c.args.checked.entries c.args.checked.bytes.now in
+    (none_closed s, lays_none s 0 _)
 
-pub returns-then-n : goal.returns-then-n
-returns-then-n c =
-    let blocks : blocks_for c.args.n ≡ c.args.n / 128 + 1 = omega arith in
-    rw blocks (lays-join c.whole-excess.ensures.lays c.last.ensures)
+pub loop-k-preserved : goal.loop-k-preserved
+loop-k-preserved c =
+    (c.whole-block.ensures.upto, lays-on (omega (arith, few c.args.checked)) (omega arith) c.loop-k.invariant.1 c.whole-block.ensures c.note.ensures)
 
-pub returns-else-n : goal.returns-else-n
-returns-else-n c =
-    let blocks : blocks_for c.args.n ≡ c.args.n / 128 = omega arith in
-    rw blocks c.whole-excess.ensures.lays
+pub note-requires-then-n-gt0 : goal.note-requires-then-n-gt0
+note-requires-then-n-gt0 c = omega (arith, few c.args.checked)
+
+pub returns-then-n-gt0 : goal.returns-then-n-gt0
+returns-then-n-gt0 c =
+    let k : c.loop-k.k ≡ c.args.checked.entries / 128 = omega arith in
+    let blocks : blocks_for c.args.checked.entries ≡ c.args.checked.entries / 128 + 1 = omega arith in
+    rw blocks (lays-on (omega (arith, few c.args.checked)) (omega arith) (rw k at c.loop-k.invariant.1) c.last.ensures c.note-then-n-gt0.ensures)
+
+pub returns-else-n-gt0 : goal.returns-else-n-gt0
+returns-else-n-gt0 c =
+    let k : blocks_for c.args.checked.entries ≡ c.loop-k.k = omega arith in
+    rw k c.loop-k.invariant.1

@@ -1,27 +1,21 @@
 -- `summary::fill` meets its contract: a refusal of the check is passed on, then 3, then the slots.
 -- Assumes nothing.
-use mathlib.Core.Path.{◌≡◌, sym, ap, ◌∙◌}
-use native.Mathlib.Omega.{arith}
-use Rattle.rules.specs.Refusal.{answer}
-use Rattle.rules.specs.Order.{check_says}
-use Rattle.answers.specs.Said.{said}
-use Rattle.summary.proofs.Filled.{taken, filled, refused, refused-short}
+use mathlib.Core.Path.{sym}
+use Rattle.answers.proofs.Said.{handed_on}
+use Rattle.summary.proofs.Slots.{blanked}
+use Rattle.summary.proofs.Filled.{filled, refused, refused-short}
 use Rattle.summary.proofs.fill.Goals as goal
 
-pub returns-then-summary-lt896 : goal.returns-then-summary-lt896
-returns-then-summary-lt896 c =
-    let accepted : check_says c.args.bytes.now ≡ answer c.in-Is.n = sym c.check_through.ensures ∙ ap said c.in-Is.is in
-    refused-short accepted c.if-summary-lt896.true
+pub returns-in_err-checked : goal.returns-in_err-checked
+returns-in_err-checked c =
+    rw (handed_on c.from_residual.result c.in_err-checked.field-0.0 c.from_residual.ensures.1) (refused _ _ (sym c.in_err-checked.ensures.says))
 
-pub blocks-requires : goal.blocks-requires
-blocks-requires c =
-    let accepted : check_says c.args.bytes.now ≡ answer c.in-Is.n = sym c.check_through.ensures ∙ ap said c.in-Is.is in
-    (c.table-t.ensures, taken accepted (omega arith))
+pub returns-in_default : goal.returns-in_default
+returns-in_default c =
+    refused-short (sym c.in_ok-checked.ensures.says) c.in_default.ensures.cases
 
-pub returns-else-summary-lt896 : goal.returns-else-summary-lt896
-returns-else-summary-lt896 c =
-    let accepted : check_says c.args.bytes.now ≡ answer c.in-Is.n = sym c.check_through.ensures ∙ ap said c.in-Is.is in
-    filled accepted (omega arith) c.blank.ensures c.blocks-in-Is.ensures c.tree.ensures
-
-pub returns-in-Refused : goal.returns-in-Refused
-returns-in-Refused c = refused _ _ (sym c.check_through.ensures ∙ ap said c.in-Refused.is)
+pub returns : goal.returns
+returns c =
+    let chunk = c.in-Some.ensures.cases in
+    let blank = blanked _ chunk.enough chunk.same (c.fill.ensures.after (λ y e. e)) in
+    filled (sym c.in_ok-checked.ensures.says) chunk.enough blank (rw c.in_ok-checked.ensures.keeps at c.blocks-2.ensures) c.tree.ensures

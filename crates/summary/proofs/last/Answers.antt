@@ -1,40 +1,31 @@
 -- `summary::last` meets its contract: the short block's numbers, its last byte read with the unused bits opened.
 -- Assumes nothing.
-use mathlib.Core.Path.{◌≡◌, refl, sym}
-use Prim.Native.Nat.{◌+◌, ◌-◌, ◌*◌, ◌/◌}
+use Prim.Native.Nat.{◌/◌}
 use native.Mathlib.Omega.{arith}
-use Rattle.rules.specs.Bytes.{parens}
-use Rattle.rules.specs.Summary.{leaf}
-use Rattle.summary.specs.Laid.{closed}
-use Rattle.summary.proofs.Slots.{lays_none, lays-on}
-use Rattle.summary.proofs.Reading.{Short, fresh_ready, ready_last, read_last}
+use Rattle.summary.proofs.Sizes.{few, blocks, exact}
+use Rattle.summary.proofs.Reading.{half_closed, ready_last, read_last}
 use Rattle.summary.proofs.last.Goals as goal
 
-pub bytes-st-requires : goal.bytes-st-requires
-bytes-st-requires c =
-    (c.requires.0, fresh_ready c.fresh.ensures (omega arith) (omega arith), omega arith)
+pub fresh-requires : goal.fresh-requires
+fresh-requires c =
+    (omega (arith, blocks c.args.checked), omega (arith, half_closed c.args.checked (c.args.checked.entries / 128) (omega arith)))
 
 pub byte-low-requires : goal.byte-low-requires
 byte-low-requires c =
-    (c.requires.0, ready_last c.requires.1 (c.args.n / 128) refl c.requires.2 c.fresh.ensures c.bytes-st.ensures, omega arith)
+    (ready_last c.args.checked c.args.passed c.fresh.ensures c.bytes-st.ensures, omega (arith, blocks c.args.checked, exact c.args.checked))
 
-pub overflow_sub-low : goal.overflow_sub-low
-overflow_sub-low c =
-    let short : Short (parens c.args.n c.args.bytes.now) c.args.n (c.args.n / 128) c.byte-low.result = read_last c.requires.1 (c.args.n / 128) c.opened-opened.result refl c.requires.3 c.requires.2 c.fresh.ensures c.bytes-st.ensures c.opened-opened.ensures c.byte-low.ensures in
-    omega (arith, short)
+pub overflow_sub-result : goal.overflow_sub-result
+overflow_sub-result c =
+    omega (arith, read_last c.args.checked _ c.requires.0 c.requires.1 c.fresh.ensures c.bytes-st.ensures c.opened-opened.ensures c.byte-low.ensures)
 
-pub note-requires : goal.note-requires
-note-requires c =
-    let short : Short (parens c.args.n c.args.bytes.now) c.args.n (c.args.n / 128) c.byte-low.result = read_last c.requires.1 (c.args.n / 128) c.opened-opened.result refl c.requires.3 c.requires.2 c.fresh.ensures c.bytes-st.ensures c.opened-opened.ensures c.byte-low.ensures in
-    let s = short in
-    (omega arith, omega arith, omega arith, omega arith, omega arith, omega arith)
+pub overflow_cast-result : goal.overflow_cast-result
+overflow_cast-result c =
+    omega (arith, read_last c.args.checked _ c.requires.0 c.requires.1 c.fresh.ensures c.bytes-st.ensures c.opened-opened.ensures c.byte-low.ensures)
+
+pub invariant_of-result : goal.invariant_of-result
+invariant_of-result c =
+    omega (arith, few c.args.checked, read_last c.args.checked _ c.requires.0 c.requires.1 c.fresh.ensures c.bytes-st.ensures c.opened-opened.ensures c.byte-low.ensures)
 
 pub returns : goal.returns
 returns c =
-    let short : Short (parens c.args.n c.args.bytes.now) c.args.n (c.args.n / 128) c.byte-low.result = read_last c.requires.1 (c.args.n / 128) c.opened-opened.result refl c.requires.3 c.requires.2 c.fresh.ensures c.bytes-st.ensures c.opened-opened.ensures c.byte-low.ensures in
-    let k = c.args.n / 128 in
-    let s = parens c.args.n c.args.bytes.now in
-    let block = short in
-    let from : (256 * k + 65536 - c.args.excess) / 2 ≡ closed s k = omega arith in
-    let low : c.byte-low.result.smallest - 65536 ≡ leaf s k = omega arith in
-    lays-on (lays_none _ _ _) (omega arith) (omega arith) (omega arith) from (sym block.all) (sym block.end) low c.note.ensures
+    omega (arith, read_last c.args.checked _ c.requires.0 c.requires.1 c.fresh.ensures c.bytes-st.ensures c.opened-opened.ensures c.byte-low.ensures)

@@ -1,79 +1,88 @@
-// One record or one string of bytes, against the rules restated plainly.
+// One record, its asks or a string of bytes, against the rules restated plainly.
 #![tactic(auto)]
 
-pub mod asks;
+ghost use Rattle.std.specs.Prelude.{◌<◌};
 
-use restated::tally::Tally;
-use restated::{compare, part, plain, tally};
+use answers::Refusal;
+use restated::tally::{Seen, Tally};
+use restated::{part, plain};
+use std::fmt;
 
-// Whether the stand-in is written to the column and nothing else is: both columns are lent full of one marker.
-fn stood(bytes: &[u8], column: &mut [u32], like: &mut [u32]) -> bool {
-    let n = plain::entries(bytes);
-    plain::stand_in(bytes, 2 * n, like);
-    if compare::is(stand_in::stand_in(bytes, column), n) {
-        return compare::counts(column, like);
+// What was compared, and what the check said of the strings.
+#[derive(Clone, Copy, Default)]
+pub struct Judge {
+    pub tally: Tally,
+    pub seen: Seen,
+}
+
+impl Judge {
+    // A record that passes the check: what the check says; the stand-in, which is all that changes in the column;
+    // the record of that column, which is the record again; and an ask past the last entry. The lent buffers have
+    // room for more than these.
+    pub fn record<const ENTRIES: usize, const BYTES: usize>(&mut self, bytes: &[u8])
+        requires { (ENTRIES < 65536) × (BYTES < 65536) }
+    {
+        let mut column = [8u32; ENTRIES];
+        let mut like = [8u32; ENTRIES];
+        let mut work = [7u16; ENTRIES];
+        let mut out = [0xEEu8; BYTES];
+        let n = plain::entries(bytes);
+        self.tally.count(checks::check(bytes) == Ok(n));
+        plain::stand_in(bytes, &mut like);
+        let stood = stand_in::stand_in(bytes, &mut column);
+        self.tally.count(stood == Ok(n) && column == like);
+        let built = build::build(part::first(&column, n), &mut work, &mut out);
+        let again = part::first(&out, bytes.len()) == bytes;
+        self.tally.count(built == Ok(bytes.len()) && again);
+        self.tally
+            .count(ask::ask(bytes, 0, n) == Err(Refusal::OutOfRange));
     }
-    false
-}
 
-// Whether build makes these bytes of the column.
-fn made(column: &[u32], work: &mut [u16], out: &mut [u8], bytes: &[u8]) -> bool {
-    let size = bytes.len();
-    if compare::is(build::build(column, work, out), size) {
-        return compare::bytes(part::bytes(out, size), bytes);
+    // Asks on a column's record, against the column's own leftmost smallest places. Between two places where asks
+    // begin or end, skip entries are left out.
+    pub fn asks(&mut self, column: &[u32], bytes: &[u8], skip: usize) {
+        let step = skip.saturating_add(1);
+        for i in (0..column.len()).step_by(step) {
+            for j in (i..column.len()).step_by(step) {
+                let place = plain::least(column, i, j);
+                self.tally.count(ask::ask(bytes, i, j).ok() == place);
+            }
+        }
     }
-    false
-}
 
-// A record that passes the check: what the check says; the stand-in; the record of that column, which is the
-// record again; and an ask past the last entry.
-pub fn record(
-    tally: Tally,
-    bytes: &[u8],
-    column: &mut [u32],
-    like: &mut [u32],
-    work: &mut [u16],
-    out: &mut [u8],
-) -> Tally {
-    let n = plain::entries(bytes);
-    let checks = compare::is(checks::check(bytes), n);
-    let stands = stood(bytes, column, like);
-    let again = made(part::counts(column, n), work, out, bytes);
-    let outside = compare::refusal(ask::ask(bytes, 0, n)) == 8;
-    tally.of(checks).of(stands).of(again).of(outside)
-}
-
-// The same of a record of at most 200 entries.
-pub fn passed(tally: Tally, bytes: &[u8]) -> Tally {
-    let mut column = [8u32; 202];
-    let mut like = [8u32; 202];
-    let mut work = [7u16; 202];
-    let mut out = [0xEEu8; 56];
-    record(tally, bytes, &mut column, &mut like, &mut work, &mut out)
-}
-
-// Bytes that the check refuses with r: so do ask and stand-in, whatever they could refuse for later, and no
-// number changes.
-fn refused(tally: Tally, bytes: &[u8], r: usize) -> Tally {
-    let like = [8u32; 3];
-    let mut column = [8u32; 3];
-    let checks = compare::refusal(checks::check(bytes)) == r;
-    let asks = compare::refusal(ask::ask(bytes, 1, 0)) == r;
-    let stands = compare::refusal(stand_in::stand_in(bytes, &mut column)) == r;
-    tally
-        .of(checks)
-        .of(asks)
-        .of(stands)
-        .of(compare::counts(&column, &like))
-}
-
-// Any bytes. Under its refusal's number, or 0, one more is seen.
-pub fn string(tally: Tally, seen: &mut [usize; 15], bytes: &[u8]) -> Tally {
-    let r = plain::check(bytes);
-    tally::see(seen, r);
-    let t = tally.of(compare::refusal(checks::frame(bytes)) == plain::frame(bytes));
-    if r == 0 {
-        return passed(t, bytes);
+    // Bytes that the check refuses: so do ask and stand-in, whatever they could refuse for later, and no number
+    // changes.
+    fn refused(&mut self, bytes: &[u8], refusal: Refusal) {
+        let mut column = [8u32; 3];
+        self.tally.count(checks::check(bytes) == Err(refusal));
+        self.tally.count(ask::ask(bytes, 1, 0) == Err(refusal));
+        let stood = stand_in::stand_in(bytes, &mut column);
+        self.tally.count(stood == Err(refusal));
+        self.tally.count(column == [8; 3]);
     }
-    refused(t, bytes, r)
+
+    // Any bytes, of at most 200 entries where they are a record.
+    pub fn string(&mut self, bytes: &[u8]) {
+        let said = plain::check(bytes);
+        self.seen.see(&said);
+        self.tally
+            .count(checks::frame(bytes) == plain::frame(bytes));
+        match said {
+            Ok(_) => self.record::<202, 56>(bytes),
+            Err(refusal) => self.refused(bytes, refusal),
+        }
+    }
+}
+
+impl fmt::Display for Judge {
+    fn fmt<W: fmt::Write>(&self, f: &mut fmt::Formatter<W>) -> fmt::Result {
+        for (refusal, count) in self.seen.counts.iter().enumerate() {
+            match (refusal, *count) {
+                (_, 0) => {}
+                (0, strings) => write!(f, "{strings} pass; ")?,
+                (_, strings) => write!(f, "{strings} refused {refusal}; ")?,
+            }
+        }
+        write!(f, "{}", self.tally)
+    }
 }

@@ -5,11 +5,10 @@
 
 mod damage;
 mod every;
+mod lent;
 mod long;
-mod print;
 mod random;
 mod refused;
-mod seen;
 mod small;
 mod strings;
 

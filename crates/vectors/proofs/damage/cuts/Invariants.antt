@@ -1,6 +1,0 @@
--- `damage::cuts` is safe and ends: k grows up to the length. Assumes nothing.
-use Rattle.std.proofs.Common.{◌-◌, length}
-use Rattle.vectors.proofs.damage.cuts.Given as goal
-
-abbrev pub decreases-loop-k : goal.decreases-loop-k
-decreases-loop-k l = length l.bytes - l.k

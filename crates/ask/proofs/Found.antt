@@ -14,9 +14,9 @@ use Rattle.rules.proofs.Excess.{closings-append, counts-length}
 use Rattle.rules.proofs.Bytes.{all_bits-append}
 use Rattle.rules.proofs.Parts.{closing_second}
 use Rattle.scan.specs.declared.Scan.{Scan}
-use Rattle.scan.specs.Scan.{scan_of}
+use Rattle.scan.specs.Scan.{scan_of, Ready}
 use Rattle.scan.proofs.Laws.{scan-append, scan_far}
-use Rattle.ask.specs.Part.{ground_level, outset, Ahead, Stops, Skips}
+use Rattle.ask.specs.Part.{ground_level, outset, Stops, Skips}
 use Rattle.ask.specs.declared.part.Stop.{Stop}
 use Rattle.ask.specs.declared.part.Skipped.{Skipped}
 use Rattle.ask.proofs.Seek.{bits-length, passed}
@@ -49,25 +49,32 @@ module _ {bs : List ℕ} {k : ℕ} {r : Skipped} (few : 8 * length bs ≤ ground
   apart : all_bits bs ≡ u ++ v
   apart = ap all_bits (sym (take-append-drop r.bytes bs)) ∙ all_bits-append (take r.bytes bs) (drop r.bytes bs)
 
-  pub left_part : take (length bs - r.bytes) (drop r.bytes bs) ≡ drop r.bytes bs
-  left_part = take_all (length bs - r.bytes) (drop r.bytes bs) (omega (arith, length-drop r.bytes bs))
-
   pub skipped_few : r.closings ≤ 8 * r.bytes
   skipped_few = rw w.counted (passed_few bs r.bytes w.within)
 
-  pub left_ahead : Ahead (resumed r) (8 * r.bytes) (drop r.bytes bs) (k - r.closings)
-  left_ahead =
-      let l = length-drop r.bytes bs in
+  abbrev left : List ℕ
+  left = take (length bs - r.bytes) (drop r.bytes bs)
+
+  all : left ≡ drop r.bytes bs
+  all = take_all (length bs - r.bytes) (drop r.bytes bs) (omega (arith, length-drop r.bytes bs))
+
+  left_long : length left ≡ length bs - r.bytes
+  left_long = rw all (length-drop r.bytes bs)
+
+  pub left_ready : Ready (resumed r) (8 * length left)
+  left_ready =
+      let l = left_long in
       let c = skipped_few in
       let i = w.within in
-      let a = w.ahead in
-      let n = w.counted in
+      record { room = omega arith; high = omega arith; bound = omega arith }
+
+  pub left_near : 8 * r.bytes + 8 * length left ≤ 1048576
+  left_near = omega (arith, left_long, w.within)
+
+  pub left_among : k - r.closings < closings (all_bits left)
+  left_among =
       let s : closings (all_bits bs) ≡ closings u + closings v = ap closings apart ∙ closings-append u v in
-      record {
-        ready = record { room = omega arith; high = omega arith; bound = omega arith };
-        near = omega arith;
-        among = omega arith;
-      }
+      rw all (omega (arith, w.ahead, w.counted))
 
   read : scan_of outset 0 u ≡ resumed r
   read =
@@ -75,9 +82,10 @@ module _ {bs : List ℕ} {k : ℕ} {r : Skipped} (few : 8 * length bs ≤ ground
       let i = w.within in
       rw (← n, w.counted) (scan_far ground_level 0 0 0 u (omega arith))
 
-  pub left_found : {x : Stop} → Stops (resumed r) (8 * r.bytes) (drop r.bytes bs) (k - r.closings) x
+  pub left_found : {x : Stop} → Stops (resumed r) (8 * r.bytes) left (k - r.closings) x
       → Stops outset 0 bs k (record { scan = x.scan; byte = r.bytes + x.byte; bit = x.bit })
-  left_found {x} f =
+  left_found {x} g =
+      let f : Stops (resumed r) (8 * r.bytes) (drop r.bytes bs) (k - r.closings) x = rw all at g in
       let n : length u ≡ 8 * r.bytes = bits-length bs r.bytes w.within in
       let y = all_bits (take x.byte (drop r.bytes bs)) in
       let place : closing_place (all_bits bs) k ≡ length u + closing_place v (k - closings u) =

@@ -19,7 +19,7 @@ use Rattle.scan.specs.declared.Scan.{Scan}
 use Rattle.scan.specs.Scan.{scan_of, Ready}
 use Rattle.scan.proofs.Laws.{scan-append, ready_after, ready_same}
 use Rattle.ask.specs.Byte.{begun, Begins}
-use Rattle.ask.specs.Part.{ground_level, outset, Ahead, Stops}
+use Rattle.ask.specs.Part.{ground_level, outset, Stops}
 use Rattle.ask.specs.Between.{seen_between, Asked}
 use Rattle.ask.specs.declared.part.Stop.{Stop}
 use Rattle.ask.proofs.Seek.{scan-counts, bits-more, bits-length, passed}
@@ -192,21 +192,27 @@ module _ {bs : List ℕ} {i j : ℕ} {r : Stop} (q : Asked bs i j) (w : Stops ou
         part : behind ≡ drop (r.byte + 1) bs
         part = take_all (length bs - (r.byte + 1)) (drop (r.byte + 1) bs) (omega (arith, length-drop (r.byte + 1) bs))
 
-        ready : Ready here (8 * length (drop (r.byte + 1) bs))
-        ready =
-            let n = length-drop (r.byte + 1) bs in
-            ready_same (8 * length (drop (r.byte + 1) bs)) f
-            (ready_after (begun (excess_at i r) (8 * r.byte + r.bit)) (8 * r.byte + r.bit + 1) (8 * length (drop (r.byte + 1) bs)) (drop (r.bit + 1) v)
+        long : length behind ≡ length bs - (r.byte + 1)
+        long = rw part (length-drop (r.byte + 1) bs)
+
+        pub apart-ready : Ready here (8 * length behind)
+        apart-ready =
+            let l = long in
+            ready_same (8 * length behind) f
+            (ready_after (begun (excess_at i r) (8 * r.byte + r.bit)) (8 * r.byte + r.bit + 1) (8 * length behind) (drop (r.bit + 1) v)
             (record {
               room = omega (arith, rest, number_low, q.few, w.byte, w.bit);
               high = omega (arith, rest, byte_low, q.few, w.byte, w.bit);
               bound = omega (arith, byte_low, w.bit);
             }))
 
-        pub apart-ahead : Ahead here (8 * (r.byte + 1)) behind (j - n)
-        apart-ahead =
+        pub apart-near : 8 * (r.byte + 1) + 8 * length behind ≤ 1048576
+        apart-near = omega (arith, long, q.few, w.byte)
+
+        pub apart-among : j - n < closings (all_bits behind)
+        apart-among =
             let c : closings s ≡ passed bs (r.byte + 1) + closings z = ap closings joined ∙ closings-append (all_bits (take (r.byte + 1) bs)) z in
-            rw part (record { ready = ready; near = omega (arith, length-drop (r.byte + 1) bs, q.few, w.byte); among = omega (arith, next, q.among) })
+            rw part (omega (arith, next, q.among))
 
         pub apart-seen : scan_of here (8 * (r.byte + 1)) (take (closing_place (all_bits behind) (j - n) + 1) (all_bits behind)) ≡ seen_between s i j
         apart-seen =

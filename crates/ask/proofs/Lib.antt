@@ -1,4 +1,3 @@
-pub mod Opened
 pub mod Fillers
 pub mod Seek
 pub mod Found

@@ -17,7 +17,8 @@ use Rattle.rules.proofs.Parts.{closing_first, closing_second, all_bits-cut}
 use Rattle.scan.specs.declared.Scan.{Scan}
 use Rattle.scan.specs.Scan.{step_of, scan_of, Ready}
 use Rattle.scan.proofs.Laws.{scan-append, scanned, scanned_none, scanned-ready, scanned-more, ready_same}
-use Rattle.ask.specs.Part.{Ahead, Stops}
+use Rattle.ask.specs.Part.{Stops}
+use Rattle.ask.specs.declared.part.Ahead.{Ahead}
 use Rattle.ask.specs.declared.part.Stop.{Stop}
 
 -- a parenthesis that opens adds one, and one that closes takes one off
@@ -50,15 +51,24 @@ pub record Seeks (st : Scan) (at : ℕ) (bs : List ℕ) (k : ℕ) (here : Scan) 
   pub before : here ≡ scanned st at bs m
   pub level : here.excess + 2 * passed bs m ≡ st.excess + 8 * m
 
-module _ {st : Scan} {at : ℕ} {bs : List ℕ} {k : ℕ} (h : Ahead st at bs k) where
+module _ (a : Ahead) {k : ℕ} (among : k < closings (all_bits a.bytes.now)) where
+  abbrev st : Scan
+  st = a.scan
+
+  abbrev at : ℕ
+  at = a.at
+
+  abbrev bs : List ℕ
+  bs = a.bytes.now
+
   pub few : k < 8 * length bs
-  few = omega (arith, h.among, counts-length (all_bits bs), all_bits-length bs)
+  few = omega (arith, among, counts-length (all_bits bs), all_bits-length bs)
 
   seeks : {here : Scan} {m : ℕ} → m ≤ length bs → passed bs m ≤ k → here ≡ scanned st at bs m → Seeks st at bs k here m
   unfolding scanned
   seeks {here} {m} l p e =
       let n = bits-length bs m l in
-      let r = h.ready.room in
+      let r = a.ready.room in
       record { ahead = p; before = e; level = rw e (scan-counts st at (all_bits (take m bs)) (omega arith) ∙ ap (st.excess +◌) n) }
 
   pub seeks_first : Seeks st at bs k st 0
@@ -70,14 +80,14 @@ module _ {st : Scan} {at : ℕ} {bs : List ℕ} {k : ℕ} (h : Ahead st at bs k)
     pub not_ended : length bs ≤ m → ⊥
     not_ended l =
         let e : passed bs m ≡ closings (all_bits bs) = ap (λ (x : List ℕ). closings (all_bits x)) (take_all m bs l) in
-        omega (arith, h.among, w.ahead)
+        omega (arith, among, w.ahead)
 
     pub before-byte : (8 * m + st.excess - here.excess) / 2 ≡ passed bs m
     before-byte = omega (arith, w.level)
 
     module _ (l : m < length bs) where
       pub byte-ready : Ready here 8
-      byte-ready = ready_same 8 w.before (scanned-ready st at m 1 bs (omega arith) h.ready)
+      byte-ready = ready_same 8 w.before (scanned-ready st at m 1 bs (omega arith) a.ready)
 
       -- the state behind byte m
       module _ {next : Scan} (f : next ≡ scan_of here (at + 8 * m) (low_bits 8 (get_or bs m 0))) where
@@ -88,7 +98,7 @@ module _ {st : Scan} {at : ℕ} {bs : List ℕ} {k : ℕ} (h : Ahead st at bs k)
         unfolding scanned
         level_next =
             let n = bits-length bs (m + 1) (omega arith) in
-            let r = h.ready.room in
+            let r = a.ready.room in
             rw behind (scan-counts st at (all_bits (take (m + 1) bs)) (omega arith) ∙ ap (st.excess +◌) n)
 
         -- closing k is not in byte m
@@ -122,21 +132,24 @@ module _ {st : Scan} {at : ℕ} {bs : List ℕ} {k : ℕ} (h : Ahead st at bs k)
 
 -- ---- just behind a closing
 
-module _ {st : Scan} {at : ℕ} {bs : List ℕ} {k : ℕ} {r : Stop} (h : Ahead st at bs k) (w : Stops st at bs k r) where
+module _ (a : Ahead) {k : ℕ} {r : Stop} (w : Stops a.scan a.at a.bytes.now k r) where
+  abbrev bytes : List ℕ
+  bytes = a.bytes.now
+
   pub stop_ready : Ready r.scan 8
   unfolding scanned
-  stop_ready = ready_same 8 w.scan (scanned-ready st at r.byte 1 bs (omega (arith, w.byte)) h.ready)
+  stop_ready = ready_same 8 w.scan (scanned-ready a.scan a.at r.byte 1 bytes (omega (arith, w.byte)) a.ready)
 
-  pub stop_through : scan_of r.scan (at + 8 * r.byte) (take (r.bit + 1) (low_bits 8 (get_or bs r.byte 0))) ≡ scan_of st at (take (closing_place (all_bits bs) k + 1) (all_bits bs))
+  pub stop_through : scan_of r.scan (a.at + 8 * r.byte) (take (r.bit + 1) (low_bits 8 (get_or bytes r.byte 0))) ≡ scan_of a.scan a.at (take (closing_place (all_bits bytes) k + 1) (all_bits bytes))
   stop_through =
-      let u = all_bits (take r.byte bs) in
-      let v = low_bits 8 (get_or bs r.byte 0) in
-      let z = all_bits (drop (suc r.byte) bs) in
-      let n : length u ≡ 8 * r.byte = bits-length bs r.byte (omega (arith, w.byte)) in
-      let e : closing_place (all_bits bs) k + 1 ≡ length u + (r.bit + 1) = omega (arith, w.stands) in
-      let f : take (closing_place (all_bits bs) k + 1) (all_bits bs) ≡ u ++ take (r.bit + 1) v =
-      ap (λ (n : ℕ). take n (all_bits bs)) e
-      ∙ ap (take (length u + (r.bit + 1))) (all_bits-cut bs r.byte w.byte)
+      let u = all_bits (take r.byte bytes) in
+      let v = low_bits 8 (get_or bytes r.byte 0) in
+      let z = all_bits (drop (suc r.byte) bytes) in
+      let n : length u ≡ 8 * r.byte = bits-length bytes r.byte (omega (arith, w.byte)) in
+      let e : closing_place (all_bits bytes) k + 1 ≡ length u + (r.bit + 1) = omega (arith, w.stands) in
+      let f : take (closing_place (all_bits bytes) k + 1) (all_bits bytes) ≡ u ++ take (r.bit + 1) v =
+      ap (λ (n : ℕ). take n (all_bits bytes)) e
+      ∙ ap (take (length u + (r.bit + 1))) (all_bits-cut bytes r.byte w.byte)
       ∙ take-append-add u (v ++ z) (r.bit + 1)
-      ∙ ap (λ (l : List Paren). u ++ l) (take-append-le (r.bit + 1) v z (rw (low_bits-length 8 (get_or bs r.byte 0)) (omega (arith, w.bit)))) in
-      rw (f, scan-append st at u (take (r.bit + 1) v), n, ← w.scan)
+      ∙ ap (λ (l : List Paren). u ++ l) (take-append-le (r.bit + 1) v z (rw (low_bits-length 8 (get_or bytes r.byte 0)) (omega (arith, w.bit)))) in
+      rw (f, scan-append a.scan a.at u (take (r.bit + 1) v), n, ← w.scan)

@@ -3,7 +3,7 @@ use Rattle.std.specs.Prelude.{◌≡◌, ℕ, ◌+◌, ◌*◌, ◌≤◌, ◌<�
 use Rattle.rules.specs.Excess.{closings, closing_place}
 use Rattle.rules.specs.Bytes.{all_bits}
 use Rattle.scan.specs.declared.Scan.{Scan}
-use Rattle.scan.specs.Scan.{Ready, scan_of}
+use Rattle.scan.specs.Scan.{scan_of}
 use Rattle.ask.specs.declared.part.Stop.{Stop}
 use Rattle.ask.specs.declared.part.Skipped.{Skipped}
 
@@ -15,13 +15,7 @@ ground_level = 65536
 abbrev pub outset : Scan
 outset = record { excess = ground_level; smallest = 0; place = 0 }
 
--- closing number k of the bytes bs is ahead of a scan in state st, which can read them all; the first parenthesis stands at place at
-pub record Ahead (st : Scan) (at : ℕ) (bs : List ℕ) (k : ℕ) : Type 0 where
-  pub ready : Ready st (8 * length bs)
-  pub near : at + 8 * length bs ≤ 1048576
-  pub among : k < closings (all_bits bs)
-
--- r tells of that closing: its byte, its bit there, and the state before that byte
+-- r tells of closing number k of the bytes bs, which a scan in state st reads from place at on: its byte, its bit there, and the state before that byte
 pub record Stops (st : Scan) (at : ℕ) (bs : List ℕ) (k : ℕ) (r : Stop) : Type 0 where
   pub byte : r.byte < length bs
   pub bit : r.bit < 8

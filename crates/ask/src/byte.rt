@@ -6,18 +6,16 @@ ghost use Rattle.rules.specs.Bytes.{low_bits};
 ghost use Rattle.scan.specs.Scan.{Ready, scan_of};
 ghost use Rattle.ask.specs.Byte.{begun, shorter, Begins};
 
+use blocks::byte::Narrow;
 use scan::Scan;
 
-// The bit at which closing number k of byte b stands: k times the first closing is opened.
+// The bit at which closing number k of byte b stands.
 pub fn nth(b: u8, k: usize) -> u32
     requires { k < closings (low_bits 8 b) }
     ensures { result ≡ closing_place (low_bits 8 b) k }
 {
-    let mut rest = b as u32;
-    for _ in 0..k {
-        rest |= rest + 1;
-    }
-    u32::trailing_zeros(rest + 1)
+    let bits = u64::from(b);
+    blocks::byte::nth(Narrow { bits, k, at: 0 }) as u32
 }
 
 // The state with its last u parentheses taken back, which were openings and so never the smallest.
@@ -27,8 +25,7 @@ fn without(st: Scan, u: u32) -> Scan
 {
     Scan {
         excess: st.excess - (u as usize),
-        smallest: st.smallest,
-        place: st.place,
+        ..st
     }
 }
 

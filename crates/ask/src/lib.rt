@@ -47,7 +47,12 @@ fn lowest(body: &[u8], i: usize, j: usize) -> Scan
         let last = byte::nth(start.byte, j - before);
         return start.within(last + 1);
     }
-    part::through(here, &body[next..], 8 * next, j - passed)
+    let rest = part::Ahead {
+        scan: here,
+        at: 8 * next,
+        bytes: &body[next..],
+    };
+    rest.through(j - passed)
 }
 
 // The entry whose closing is the leftmost place of smallest excess from closing i to closing j.

@@ -2,8 +2,8 @@
 ghost use Rattle.std.specs.Prelude.{◌≡◌, ◌+◌, ◌*◌, ◌≤◌, ◌<◌, length, take};
 ghost use Rattle.rules.specs.Excess.{closings, closing_place};
 ghost use Rattle.rules.specs.Bytes.{all_bits};
-ghost use Rattle.scan.specs.Scan.{scan_of};
-ghost use Rattle.ask.specs.Part.{ground_level, outset, Ahead, Stops, Skips};
+ghost use Rattle.scan.specs.Scan.{Ready, scan_of};
+ghost use Rattle.ask.specs.Part.{ground_level, outset, Stops, Skips};
 
 use crate::byte;
 use scan::{GROUND, Scan};
@@ -16,28 +16,50 @@ pub struct Stop {
     pub bit: u32,
 }
 
-// Closing number k of these bytes, the first of whose parentheses stands at place at. The excess
-// tells how many closings have been read: it is ground, one more for each parenthesis, and two less
-// for each that closes.
-pub fn seek(st: Scan, part: &[u8], at: usize, k: usize) -> Stop
-    requires { Ahead st at part.now k }
-    ensures { Stops st at part.now k result }
-{
-    let ground = st.excess;
-    let mut here = st;
-    for (m, &b) in part.iter().enumerate() {
-        let next = here.byte(at + 8 * m, b);
-        if 2 * k + next.excess < 8 * (m + 1) + ground {
-            let before = (8 * m + ground - here.excess) / 2;
-            return Stop {
-                scan: here,
-                byte: m,
-                bit: byte::nth(b, k - before),
-            };
+// Bytes ahead of a scan, which can read them all: its state before them, and the place of their first
+// parenthesis.
+#[derive(Clone, Copy)]
+pub struct Ahead<'a> {
+    pub scan: Scan,
+    pub at: usize,
+    pub bytes: &'a [u8],
+    pub ghost ready: { Ready scan (8 * length bytes.now) },
+    pub ghost near: { at + 8 * length bytes.now ≤ 1048576 },
+}
+
+impl<'a> Ahead<'a> {
+    // Closing number k of the bytes. The excess tells how many closings have been read: it is ground, one
+    // more for each parenthesis, and two less for each that closes.
+    pub fn seek(self, k: usize) -> Stop
+        requires { k < closings (all_bits self.bytes.now) }
+        ensures { Stops self.entry.scan self.entry.at self.entry.bytes.now k result }
+    {
+        let ground = self.scan.excess;
+        let mut here = self.scan;
+        for (m, &b) in self.bytes.iter().enumerate() {
+            let next = here.byte(self.at + 8 * m, b);
+            if 2 * k + next.excess < 8 * (m + 1) + ground {
+                let before = (8 * m + ground - here.excess) / 2;
+                return Stop {
+                    scan: here,
+                    byte: m,
+                    bit: byte::nth(b, k - before),
+                };
+            }
+            here = next;
         }
-        here = next;
+        unreachable!()
     }
-    unreachable!()
+
+    // The state just behind closing number k of the bytes.
+    pub fn through(self, k: usize) -> Scan
+        requires { k < closings (all_bits self.bytes.now) }
+        ensures { result ≡ scan_of self.entry.scan self.entry.at (take (closing_place (all_bits self.entry.bytes.now) k + 1) (all_bits self.entry.bytes.now)) }
+    {
+        let stop = self.seek(k);
+        let m = stop.byte;
+        byte::upto(stop.scan, self.at + 8 * m, self.bytes[m], stop.bit + 1)
+    }
 }
 
 // Some bytes before a closing's, and the closings among them.
@@ -75,26 +97,19 @@ pub fn find(part: &[u8], k: usize) -> Stop
 {
     let skipped = skip(part, k);
     let from = skipped.bytes;
-    let start = Scan {
+    let scan = Scan {
         excess: GROUND + 8 * from - 2 * skipped.closings,
         smallest: 0,
         place: 0,
     };
-    let stop = seek(start, &part[from..], 8 * from, k - skipped.closings);
-    let scan = stop.scan;
-    Stop {
+    let rest = Ahead {
         scan,
+        at: 8 * from,
+        bytes: &part[from..],
+    };
+    let stop = rest.seek(k - skipped.closings);
+    Stop {
         byte: from + stop.byte,
-        bit: stop.bit,
+        ..stop
     }
-}
-
-// The state just behind closing number k of these bytes.
-pub fn through(st: Scan, part: &[u8], at: usize, k: usize) -> Scan
-    requires { Ahead st at part.now k }
-    ensures { result ≡ scan_of st at (take (closing_place (all_bits part.now) k + 1) (all_bits part.now)) }
-{
-    let stop = seek(st, part, at, k);
-    let m = stop.byte;
-    byte::upto(stop.scan, at + 8 * m, part[m], stop.bit + 1)
 }

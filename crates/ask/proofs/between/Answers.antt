@@ -11,7 +11,7 @@ pub slice_bounds-lowest-start : goal.slice_bounds-lowest-start
 slice_bounds-lowest-start c = long c.args.checked.bytes.now c.args.checked.accepted c.requires.0 c.requires.1
 
 pub lowest-end-requires : goal.lowest-end-requires
-lowest-end-requires c = asked c.args.checked.bytes.now c.args.checked.accepted c.requires.0 c.requires.1
+lowest-end-requires c = omega (arith, asked c.args.checked.bytes.now c.args.checked.accepted c.requires.0 c.requires.1)
 
 pub overflow_add-end : goal.overflow_add-end
 overflow_add-end c = omega (arith, names c.args.checked.bytes.now c.args.checked.accepted c.requires.0 c.requires.1 c.lowest-end.ensures)

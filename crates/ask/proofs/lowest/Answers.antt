@@ -2,7 +2,7 @@
 -- Assumes nothing.
 use mathlib.Core.Path.{◌∙◌}
 use native.Mathlib.Omega.{arith}
-use Rattle.ask.proofs.FromClosing.{number_low, byte_low, begins, before_fits, next_fits, same_after, same-among, same_low, same-order, same_seen, apart-ahead, apart-seen}
+use Rattle.ask.proofs.FromClosing.{number_low, byte_low, begins, before_fits, next_fits, same_after, same-among, same_low, same-order, same_seen, apart-ready, apart-near, apart-among, apart-seen}
 use Rattle.ask.proofs.lowest.Goals as goal
 
 pub overflow_mul-start : goal.overflow_mul-start
@@ -47,9 +47,16 @@ pub returns-then-j-passed : goal.returns-then-j-passed
 returns-then-j-passed c =
     c.within.ensures ∙ same_seen c.requires c.find-first.ensures c.behind-here.ensures c.closings-passed.ensures c.if-j-passed.true c.closings-before.ensures c.nth-last.ensures
 
+pub invariant_of-rest : goal.invariant_of-rest
+invariant_of-rest c =
+    record {
+      ready = apart-ready c.requires c.find-first.ensures c.behind-here.ensures c.closings-passed.ensures c.if-j-passed.false;
+      near = apart-near c.requires c.find-first.ensures c.behind-here.ensures c.closings-passed.ensures c.if-j-passed.false;
+    }
+
 pub through-requires : goal.through-requires
 through-requires c =
-    apart-ahead c.requires c.find-first.ensures c.behind-here.ensures c.closings-passed.ensures c.if-j-passed.false
+    apart-among c.requires c.find-first.ensures c.behind-here.ensures c.closings-passed.ensures c.if-j-passed.false
 
 pub returns : goal.returns
 returns c =

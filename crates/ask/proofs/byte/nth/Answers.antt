@@ -1,14 +1,11 @@
--- `ask::byte::nth` meets its contract. The loop's invariant: the closing that is left over of the byte so far is the one asked for.
--- Assumes nothing.
+-- `ask::byte::nth` meets its contract: a closing of eight bits stands below 8. Assumes nothing.
 use native.Mathlib.Omega.{arith}
-use Rattle.ask.proofs.Opened.{leads_first, leads-on, leads-there}
+use Rattle.rules.specs.Bytes.{low_bits}
+use Rattle.rules.proofs.Bytes.{low_bits-length}
+use Rattle.rules.proofs.ClosingPlace.{closing-within}
 use Rattle.ask.proofs.byte.nth.Goals as goal
 
-pub loop-init : goal.loop-init
-loop-init c = leads_first _ _ c.ranges.b.fits c.requires
-
-pub loop-preserved : goal.loop-preserved
-loop-preserved c = leads-on _ _ _ _ c.loop.invariant c.loop-test.true
-
-pub returns : goal.returns
-returns c = leads-there _ _ _ _ c.loop.invariant (omega arith)
+pub overflow_cast-result : goal.overflow_cast-result
+overflow_cast-result c =
+    let b = c.from-bits.result in
+    omega (arith, closing-within (low_bits 8 b) c.args.k (rw c.from-bits.ensures c.requires), low_bits-length 8 b)

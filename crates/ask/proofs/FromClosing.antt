@@ -115,7 +115,7 @@ module _ {bs : List ℕ} {i j : ℕ} {r : Stop} (q : Asked bs i j) (w : Stops ou
   level : r.scan.excess + 2 * passed bs r.byte ≡ ground_level + 8 * r.byte
   level = rw w.scan (scan-counts outset 0 u (omega (arith, before, byte_low)) ∙ ap (ground_level +◌) before)
 
-  pub before_fits : r.scan.excess ≤ 8 * r.byte + ground_level
+  pub before_fits : r.scan.excess ≤ ground_level + 8 * r.byte
   before_fits = omega (arith, level)
 
   -- ---- what is read from there to closing j
@@ -147,16 +147,16 @@ module _ {bs : List ℕ} {i j : ℕ} {r : Stop} (q : Asked bs i j) (w : Stops ou
         let c = scan-counts (begun (excess_at i r) (8 * r.byte + r.bit)) (8 * r.byte + r.bit + 1) (drop (r.bit + 1) v) (omega (arith, rest, begins)) in
         rw f (omega (arith, rest, closings-upto, closings-byte, closings_next, number_low, byte_low, w.bit))
 
-    pub next_fits : here.excess ≤ 8 * (r.byte + 1) + ground_level
+    pub next_fits : here.excess ≤ ground_level + 8 * (r.byte + 1)
     next_fits = omega (arith, level_next)
 
     -- n closings are before it
-    module _ {n : ℕ} (counted : n ≡ (8 * (r.byte + 1) + ground_level - here.excess) / 2) where
+    module _ {n : ℕ} (counted : n ≡ (ground_level + 8 * (r.byte + 1) - here.excess) / 2) where
       next : n ≡ passed bs (r.byte + 1)
       next = omega (arith, level_next)
 
       -- closing j is in closing i's byte, before which there are m closings
-      module _ (h : j < n) {m : ℕ} (e : m ≡ (8 * r.byte + ground_level - r.scan.excess) / 2) where
+      module _ (h : j < n) {m : ℕ} (e : m ≡ (ground_level + 8 * r.byte - r.scan.excess) / 2) where
         earlier : m ≡ passed bs r.byte
         earlier = omega (arith, level)
 

@@ -82,8 +82,9 @@ module _ (a : Ahead) {k : ℕ} (among : k < closings (all_bits a.bytes.now)) whe
         let e : passed bs m ≡ closings (all_bits bs) = ap (λ (x : List ℕ). closings (all_bits x)) (take_all m bs l) in
         omega (arith, among, w.ahead)
 
-    pub before-byte : (8 * m + st.excess - here.excess) / 2 ≡ passed bs m
-    before-byte = omega (arith, w.level)
+    -- the closings before byte m
+    pub before-byte : {n : ℕ} → n ≡ (st.excess + 8 * m - here.excess) / 2 → n ≡ passed bs m
+    before-byte e = omega (arith, w.level)
 
     module _ (l : m < length bs) where
       pub byte-ready : Ready here 8
@@ -113,22 +114,22 @@ module _ (a : Ahead) {k : ℕ} (among : k < closings (all_bits a.bytes.now)) whe
               let c : passed bs (m + 1) ≡ passed bs m + closings v = rw (bits-more bs m l) (closings-append (all_bits (take m bs)) v) in
               omega (arith, level_next, w.ahead)
 
-          pub nth-in-byte : k - (8 * m + st.excess - here.excess) / 2 < closings (low_bits 8 (get_or bs m 0))
-          nth-in-byte = rw before-byte in-byte
+          module _ {n : ℕ} (counted : n ≡ (st.excess + 8 * m - here.excess) / 2) where
+            pub counted-in-byte : k - n < closings (low_bits 8 (get_or bs m 0))
+            counted-in-byte = rw (before-byte counted) in-byte
 
-          pub stops : {x : ℕ} → x ≡ closing_place (low_bits 8 (get_or bs m 0)) (k - (8 * m + st.excess - here.excess) / 2)
-              → Stops st at bs k (record { scan = here; byte = m; bit = x })
-          unfolding scanned
-          stops {x} e' =
-              let u = all_bits (take m bs) in
-              let b = get_or bs m 0 in
-              let v = low_bits 8 b in
-              let z = all_bits (drop (suc m) bs) in
-              let e : x ≡ closing_place v (k - passed bs m) = rw before-byte at e' in
-              let n : closing_place v (k - passed bs m) < 8 = rw (low_bits-length 8 b) at (closing-within v (k - passed bs m) in-byte) in
-              let g : closing_place (all_bits bs) k ≡ length u + closing_place v (k - passed bs m) =
-              rw (all_bits-cut bs m l, closing_second u (v ++ z) k w.ahead) (ap (length u +◌) (closing_first v z (k - passed bs m) in-byte)) in
-              record { byte = l; bit = omega arith; stands = omega (arith, bits-length bs m (omega arith)); scan = w.before }
+            pub stops : {x : ℕ} → x ≡ closing_place (low_bits 8 (get_or bs m 0)) (k - n) → Stops st at bs k (record { scan = here; byte = m; bit = x })
+            unfolding scanned
+            stops {x} e' =
+                let u = all_bits (take m bs) in
+                let b = get_or bs m 0 in
+                let v = low_bits 8 b in
+                let z = all_bits (drop (suc m) bs) in
+                let e : x ≡ closing_place v (k - passed bs m) = rw (before-byte counted) at e' in
+                let low : closing_place v (k - passed bs m) < 8 = rw (low_bits-length 8 b) at (closing-within v (k - passed bs m) in-byte) in
+                let g : closing_place (all_bits bs) k ≡ length u + closing_place v (k - passed bs m) =
+                rw (all_bits-cut bs m l, closing_second u (v ++ z) k w.ahead) (ap (length u +◌) (closing_first v z (k - passed bs m) in-byte)) in
+                record { byte = l; bit = omega arith; stands = omega (arith, bits-length bs m (omega arith)); scan = w.before }
 
 -- ---- just behind a closing
 

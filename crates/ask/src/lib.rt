@@ -10,19 +10,19 @@ ghost use Rattle.rules.specs.Excess.{entry_between};
 ghost use Rattle.rules.specs.Bytes.{parens, all_bits};
 ghost use Rattle.rules.specs.Order.{ask_says};
 ghost use Rattle.answers.specs.Said.{said};
-ghost use Rattle.ask.specs.Part.{ground_level};
 ghost use Rattle.ask.specs.Between.{seen_between, Asked};
 
 use answers::Refusal;
 use checks::record::Record;
 use scan::{GROUND, Scan};
 
-// The closings among the first p parentheses, after which the excess is e: each takes two off p.
-fn closings(p: usize, e: usize) -> usize
-    requires { (p ≤ ground_level) × (e ≤ p + ground_level) }
-    ensures { result ≡ (p + ground_level - e) / 2 }
+// The closings among p parentheses, before which the excess is ground and after which it is e: each takes
+// two off ground and p together.
+fn closings(ground: usize, p: usize, e: usize) -> usize
+    requires { (e ≤ ground + p) × (ground + p ≤ 1048576) }
+    ensures { result ≡ (ground + p - e) / 2 }
 {
-    (p + GROUND - e) / 2
+    (ground + p - e) / 2
 }
 
 // The scan that begins with closing i and ends with closing j: a part of closing i's byte, and where
@@ -41,9 +41,9 @@ fn lowest(body: &[u8], i: usize, j: usize) -> Scan
     };
     let here = start.behind();
     let next = first.byte + 1;
-    let passed = closings(8 * next, here.excess);
+    let passed = closings(GROUND, 8 * next, here.excess);
     if j < passed {
-        let before = closings(at, first.scan.excess);
+        let before = closings(GROUND, at, first.scan.excess);
         let last = byte::nth(start.byte, j - before);
         return start.within(last + 1);
     }
@@ -61,7 +61,7 @@ fn between(checked: Record, i: usize, j: usize) -> usize
     ensures { result ≡ entry_between (parens checked.entry.entries checked.entry.bytes.now) i j }
 {
     let end = lowest(&checked.bytes[4..], i, j);
-    closings(end.place + 1, end.smallest) - 1
+    closings(GROUND, end.place + 1, end.smallest) - 1
 }
 
 // The leftmost smallest entry from i to j, both counted in, of the column whose record this is: the

@@ -39,7 +39,7 @@ impl<'a> Ahead<'a> {
         for (m, &b) in self.bytes.iter().enumerate() {
             let next = here.byte(self.at + 8 * m, b);
             if 2 * k + next.excess < 8 * (m + 1) + ground {
-                let before = (8 * m + ground - here.excess) / 2;
+                let before = crate::closings(ground, 8 * m, here.excess);
                 return Stop {
                     scan: here,
                     byte: m,

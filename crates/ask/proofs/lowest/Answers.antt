@@ -19,11 +19,11 @@ invariant_of-start c = record { begins = begins c.requires c.find-first.ensures 
 
 pub closings-passed-requires : goal.closings-passed-requires
 closings-passed-requires c =
-    (omega (arith, byte_low c.requires c.find-first.ensures), next_fits c.requires c.find-first.ensures c.behind-here.ensures)
+    (next_fits c.requires c.find-first.ensures c.behind-here.ensures, omega (arith, byte_low c.requires c.find-first.ensures))
 
 pub closings-before-requires : goal.closings-before-requires
 closings-before-requires c =
-    (omega (arith, byte_low c.requires c.find-first.ensures), before_fits c.requires c.find-first.ensures)
+    (before_fits c.requires c.find-first.ensures, omega (arith, byte_low c.requires c.find-first.ensures))
 
 pub overflow_sub-j : goal.overflow_sub-j
 overflow_sub-j c =

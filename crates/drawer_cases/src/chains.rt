@@ -1,87 +1,85 @@
 // Appends in a row into one buffer, then what find and hand-out say of each record.
-use crate::{appends, finds, print};
+use crate::calls::Calls;
+use answers::Refusal;
 use drawers::kinds::Kind;
-use drawers::{appends as made, kinds};
-use restated::{columns, compare, part, sums};
-use shown::Line;
+use restated::{columns, part, sums};
+use shown::{Hexes, Said, Spaced};
 use std::io;
 
-// One append behind the used bytes, with everything shown. It gives the new used length.
-fn next(
-    rt: &impl Print,
-    seen: &mut [usize; 15],
-    buffer: &mut [u8],
-    work: &mut [u16],
-    old: usize,
-    n: usize,
-) -> io::Result<usize> {
-    let room = buffer.len();
-    let numbers = work.len();
-    let a = made::append(buffer, work, n, room, old, numbers);
-    let line = made::named(n).form(b" behind #:", &[old]);
-    appends::left(rt, seen, line, buffer, work, a)?;
-    Ok(compare::value(a, old))
+// A drawer in the making: a buffer, how many of its bytes are used, and the work that each append is lent.
+#[derive(Drop)]
+struct Chain<const BYTES: usize, const NUMBERS: usize> {
+    buffer: [u8; BYTES],
+    used: usize,
+    work: [u16; NUMBERS],
+}
+
+impl<const BYTES: usize, const NUMBERS: usize> Chain<BYTES, NUMBERS> {
+    // Behind so many bytes of records in turn.
+    fn behind(used: usize) -> Self {
+        let mut buffer = [0xEE; BYTES];
+        Kind::InTurn.fill(part::first_mut(&mut buffer, used));
+        Chain {
+            buffer,
+            used,
+            work: [7; NUMBERS],
+        }
+    }
+
+    // One append behind the used bytes, counted.
+    fn append(&mut self, calls: &mut Calls<impl Print>, column: &[u32]) -> Result<usize, Refusal> {
+        let said = append::append(&mut self.buffer, self.used, column, &mut self.work);
+        calls.seen.see(&said);
+        self.used = said.unwrap_or(self.used);
+        said
+    }
+
+    // What stands in the used bytes.
+    fn drawer(&self) -> &[u8] {
+        part::first(&self.buffer, self.used)
+    }
 }
 
 // Three records, and a fourth for which a byte is missing.
-pub fn three(rt: &impl Print, seen: &mut [usize; 15]) -> io::Result<()> {
-    let mut buffer = [0xEEu8; 18];
-    let mut work = [7u16; 6];
-    let lengths = [3, 0, 5, 0];
-    let mut end = 0;
-    print::show(rt, Line::new().text(b"three in a row\n"))?;
-    for k in 0..4 {
-        end = next(rt, seen, &mut buffer, &mut work, end, lengths[k])?;
+pub fn three(calls: &mut Calls<impl Print>) -> io::Result<()> {
+    let mut chain = Chain::<18, 6>::behind(0);
+    let columns: [&[u32]; 4] = [&[3, 1, 2], &[], &[4, 2, 4, 2, 9], &[]];
+    println!(calls.rt; "three in a row")?;
+    for column in columns {
+        print!(calls.rt; "append{} behind {}:", Spaced(column), chain.used)?;
+        let said = chain.append(calls, column);
+        let buffer = Hexes(&chain.buffer);
+        println!(calls.rt; "{};{buffer};{}", Said(said), Spaced(&chain.work))?;
     }
-    finds::each(rt, seen, part::bytes(&buffer, end), &[0, 1, 2, 3])
-}
-
-// A record of five entries and one of none behind 63 records.
-fn two(rt: &impl Print, seen: &mut [usize; 15], buffer: &mut [u8]) -> io::Result<usize> {
-    let mut work = [7u16; 5];
-    let a = made::quiet(seen, buffer, &mut work, 283, &[4, 2, 4, 2, 9]);
-    let end = compare::value(a, 283);
-    let b = made::quiet(seen, buffer, &mut work, end, &[]);
-    print::show(
-        rt,
-        Line::new().text(b"behind 63 records\n").answer(a).answer(b),
-    )?;
-    Ok(end)
+    calls.finds(chain.drawer(), &[0, 1, 2, 3])
 }
 
 // Record 63 behind 63 records, and no record 64.
-pub fn last(rt: &impl Print, seen: &mut [usize; 15]) -> io::Result<()> {
-    let mut buffer = [0xEEu8; 300];
-    kinds::fill(part::bytes_mut(&mut buffer, 283), Kind::InTurn);
-    let end = two(rt, seen, &mut buffer)?;
-    print::show(rt, Line::new().text(b"\n"))?;
-    finds::each(rt, seen, part::bytes(&buffer, end), &[0, 62, 63, 64])
+pub fn last(calls: &mut Calls<impl Print>) -> io::Result<()> {
+    let mut chain = Chain::<300, 5>::behind(283);
+    let with_entries = chain.append(calls, &[4, 2, 4, 2, 9]);
+    let with_none = chain.append(calls, &[]);
+    println!(calls.rt; "behind 63 records")?;
+    println!(calls.rt; "{}{}", Said(with_entries), Said(with_none))?;
+    calls.finds(chain.drawer(), &[0, 62, 63, 64])
 }
 
-fn each(rt: &impl Print, seen: &mut [usize; 15], bytes: &[u8]) -> io::Result<()> {
-    let mut r = 0;
-    while r < 66 {
-        finds::find(rt, seen, bytes, r)?;
-        r += 1;
+// Seventy appends, of columns of 0 to 69 entries: 64 of them find a place.
+pub fn many(calls: &mut Calls<impl Print>) -> io::Result<()> {
+    let mut chain = Chain::<2000, 72>::behind(0);
+    let mut column = [0u32; 70];
+    columns::Kind::Scattered.fill(&mut column, 0);
+    for n in 0..70 {
+        let _ = chain.append(calls, &column[..n]);
+    }
+    let sum = sums::sum(&chain.buffer);
+    println!(calls.rt;
+        "seventy appends: used {}, sum {sum}, work{}",
+        chain.used,
+        Spaced(&chain.work)
+    )?;
+    for r in 0..66 {
+        calls.find(chain.drawer(), r)?;
     }
     Ok(())
-}
-
-fn show(rt: &impl Print, buffer: &[u8], work: &[u16], end: usize) -> io::Result<()> {
-    let line = Line::new().form(
-        b"seventy appends: used #, sum #, work",
-        &[end, sums::bytes(buffer)],
-    );
-    print::show(rt, line.numbers(work).text(b"\n"))
-}
-
-// 64 of the seventy find a place.
-pub fn many(rt: &impl Print, seen: &mut [usize; 15]) -> io::Result<()> {
-    let mut buffer = [0xEEu8; 2000];
-    let mut work = [7u16; 72];
-    let mut column = [0u32; 70];
-    columns::fill(&mut column, columns::Kind::Scattered, 0);
-    let end = made::grow(seen, &mut buffer, &mut work, &column);
-    show(rt, &buffer, &work, end)?;
-    each(rt, seen, part::bytes(&buffer, end))
 }

@@ -4,28 +4,28 @@
 #![tactic(auto)]
 
 mod appends;
+mod calls;
 mod chains;
 mod faults;
 mod finds;
 mod limits;
 mod looks;
-mod print;
-mod seen;
-mod table;
 
+use calls::Calls;
 use std::io;
 
 fn main(rt: HostRuntime) -> io::Result<()> {
-    let mut seen = [0usize; 15];
-    finds::counts(&rt, &mut seen)?;
-    finds::sizes(&rt, &mut seen)?;
-    faults::inside(&rt, &mut seen)?;
-    faults::cut(&rt, &mut seen)?;
-    looks::all(&rt, &mut seen)?;
-    looks::long(&rt, &mut seen)?;
-    table::all(&rt, &mut seen)?;
-    chains::three(&rt, &mut seen)?;
-    chains::last(&rt, &mut seen)?;
-    chains::many(&rt, &mut seen)?;
-    seen::show(&rt, &seen)
+    let mut calls = Calls::new(rt);
+    finds::counts(&mut calls)?;
+    finds::sizes(&mut calls)?;
+    faults::inside(&mut calls)?;
+    faults::cut(&mut calls)?;
+    looks::all(&mut calls)?;
+    looks::long(&mut calls)?;
+    appends::all(&mut calls)?;
+    limits::all(&mut calls)?;
+    chains::three(&mut calls)?;
+    chains::last(&mut calls)?;
+    chains::many(&mut calls)?;
+    calls.show()
 }

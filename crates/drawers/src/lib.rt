@@ -1,7 +1,6 @@
-// Drawers made by rule, appends into them, and what is said of the calls: for the program that runs and compares them.
+// Drawers made by rule, what an append is lent, and what the calls say: for the program that runs and compares them.
 #![tactic(auto)]
 
-pub mod appends;
 pub mod kinds;
-pub mod seen;
+pub mod lent;
 pub mod told;

@@ -1,6 +1,0 @@
--- `kinds::fill` is safe and ends: k grows up to the length, which stays. Assumes nothing.
-use Rattle.std.proofs.Common.{◌-◌, length}
-use Rattle.drawers.proofs.kinds.fill.Given as goal
-
-abbrev pub decreases-loop-k : goal.decreases-loop-k
-decreases-loop-k l = length l.initial.buffer - l.k

@@ -7,7 +7,7 @@ use native.Mathlib.Omega.{arith}
 use mathlib.Core.List.{List}
 use lib.ListN.{length, take, drop, get_or, length-take, length-drop}
 use lib.Seq.{length-take-le, get_or-take, get_or-drop}
-use Rattle.rules.specs.Shape.{Paren, opening}
+use Rattle.rules.specs.Shape.{Paren, opening, closing}
 use Rattle.rules.specs.Bytes.{low_bits, all_bits}
 use Rattle.rules.proofs.Bytes.{low_bits-length, all_bits-length}
 use Rattle.scan.specs.declared.Scan.{Scan}
@@ -15,9 +15,23 @@ use Rattle.scan.specs.Scan.{Ready, scan_of}
 use Rattle.scan.proofs.Laws.{ready_after, ready-fewer, scan_below}
 use Rattle.ask.specs.Byte.{begun, Begins}
 use Rattle.quick.specs.Lowest.{Lowest}
-use Rattle.quick.specs.Part.{height, level, end_of, Lent, Runs, ClosingAt, Near, FromClosing, GoesOn}
+use Rattle.quick.specs.Part.{height, level, end_of, Runs, ClosingAt, Near, Begun, FromClosing, GoesOn}
 use Rattle.quick.proofs.Beats.{beats_idle, beats-join, low_join}
 use Rattle.quick.proofs.Parts.{bits-byte, bits_some, bits_behind, bits-within, reads, ran, ran-through, from-closing}
+
+-- the state behind the byte of the closing at place x, after which the excess is e
+abbrev pub first_byte : List ℕ → ℕ → ℕ → Scan
+first_byte body x e =
+    scan_of (begun e (8 * (x / 8) + x % 8)) (8 * (x / 8) + x % 8 + 1) (drop (x % 8 + 1) (low_bits 8 (get_or body (x / 8) 0)))
+
+-- a scan that began there and has read the byte
+pub byte-begun : {body : List ℕ} {x e at b q e' : ℕ} {r : Scan} → Begun body x e at b q e' → r ≡ scan_of (begun e' (at + q)) (at + q + 1) (drop (q + 1) (low_bits 8 b)) → r ≡ first_byte body x e
+byte-begun {body} {x} {e} start is = rw (start.first, start.byte, start.bit, start.excess) at is
+
+-- the same up to before its bit k
+pub bits-begun : {body : List ℕ} {x e at b q e' : ℕ} (k : ℕ) {r : Scan} → Begun body x e at b q e' → r ≡ scan_of (begun e' (at + q)) (at + q + 1) (drop (q + 1) (take k (low_bits 8 b)))
+    → r ≡ scan_of (begun e (8 * (x / 8) + x % 8)) (8 * (x / 8) + x % 8 + 1) (drop (x % 8 + 1) (take k (low_bits 8 (get_or body (x / 8) 0))))
+bits-begun {body} {x} {e} k start is = rw (start.first, start.byte, start.bit, start.excess) at is
 
 -- reading never raises the smallest
 pub runs_below : {st : Scan} {at : ℕ} {part : List ℕ} {stop : ℕ} {r : Scan} → Runs st at part stop r → r.smallest ≤ st.smallest
@@ -32,7 +46,7 @@ runs_ready {st} {at} {part} {stop} {r} h ready runs =
     subst⁻¹ (λ (x : Scan). Ready x 8) runs.read
     (ready_after st at 8 (all_bits (take c part)) (ready-fewer st _ 256 (omega arith) ready))
 
-module _ (body : List ℕ) (lent : Lent body) where
+module _ (body : List ℕ) (small : length body ≤ 8192) where
   -- ---- on from a state, up to before place b
 
   module _ (st : Scan) (f w stop : ℕ) (mid : Scan) (fits : f + w ≤ length body) (runs : Runs st (8 * f) (take w (drop f body)) stop mid) where
@@ -43,7 +57,7 @@ module _ (body : List ℕ) (lent : Lent body) where
           bound = runs_below runs;
           right = λ true bounds.
               beats-join (height body)
-              (ran body lent st f w stop mid fits true runs (λ p g l. bounds p g (omega arith)))
+              (ran body small st f w stop mid fits true runs (λ p g l. bounds p g (omega arith)))
               (beats_idle (height body) (8 * f + 8 * w) b mid (λ p g l. le_trans low (bounds p (omega arith) l)))
               (omega arith) h;
         }
@@ -55,18 +69,31 @@ module _ (body : List ℕ) (lent : Lent body) where
         record {
           bound = le_trans (rw is (scan_below mid (8 * (f + w)) (take k (low_bits 8 (get_or body (f + w) 0))))) (runs_below runs);
           right = λ true bounds.
-              let all = ran-through body lent st f w stop mid fits true runs high in
+              let all = ran-through body small st f w stop mid fits true runs high in
               let e : 8 * f + 8 * w ≡ 8 * (f + w) = omega arith in
               let g : 8 * (f + w) + 0 ≡ 8 * (f + w) = omega arith in
-              let more = reads body lent mid (8 * (f + w)) k (omega arith) (all.level-now ∙ ap (level body) e) (is ∙ ap (scan_of mid (8 * (f + w))) (bits_some (f + w) body 0 k l (omega arith) ∙ ap (λ (p : ℕ). take k (drop p (all_bits body))) g)) in
+              let more = reads body small mid (8 * (f + w)) k (omega arith) (all.level-now ∙ ap (level body) e) (is ∙ ap (scan_of mid (8 * (f + w))) (bits_some (f + w) body 0 k l (omega arith) ∙ ap (λ (p : ℕ). take k (drop p (all_bits body))) g)) in
               beats-join (height body) (rw e at all.beats) more.beats (omega arith) (omega arith);
         }
 
     -- all of it
     pub goes-all : GoesOn body (8 * f) (8 * f + 8 * w) st stop mid
-    goes-all = record { bound = runs_below runs; right = λ true bounds. ran body lent st f w stop mid fits true runs bounds }
+    goes-all = record { bound = runs_below runs; right = λ true bounds. ran body small st f w stop mid fits true runs bounds }
 
   -- ---- on from the closing at place x, after which the excess is e
+
+  -- a scan can begin with it
+  pub begins : (x e : ℕ) → x < 8 * length body → get_or (all_bits body) x opening ≡ closing → Near e → Begins (8 * (x / 8)) (get_or body (x / 8) 0) (x % 8) e
+  begins x e h closes near =
+      let place : 8 * (x / 8) + x % 8 ≡ x = omega arith in
+      let bits : get_or (low_bits 8 (get_or body (x / 8) 0)) (x % 8) opening ≡ get_or (all_bits body) x opening =
+      ap (λ (s : List Paren). get_or s (x % 8) opening) (bits-byte (x / 8) body (omega arith))
+      ∙ get_or-take 8 (drop (8 * (x / 8)) (all_bits body)) (x % 8) opening (omega arith)
+      ∙ get_or-drop (8 * (x / 8)) (all_bits body) (x % 8) opening
+      ∙ ap (λ (p : ℕ). get_or (all_bits body) p opening) place in
+      let a = near.above in
+      let b = near.below in
+      record { closes = bits ∙ closes; room = omega arith; high = omega arith; near = omega arith }
 
   module _ (k x e : ℕ) (at_x : ClosingAt body k x) (near : Near e) where
     within : x / 8 < length body
@@ -75,23 +102,10 @@ module _ (body : List ℕ) (lent : Lent body) where
     place : 8 * (x / 8) + x % 8 ≡ x
     place = omega arith
 
-    pub begins : Begins (8 * (x / 8)) (get_or body (x / 8) 0) (x % 8) e
-    begins =
-        let f = lent.few in
-        let h = at_x.within in
-        let bits : get_or (low_bits 8 (get_or body (x / 8) 0)) (x % 8) opening ≡ get_or (all_bits body) x opening =
-        ap (λ (s : List Paren). get_or s (x % 8) opening) (bits-byte (x / 8) body within)
-        ∙ get_or-take 8 (drop (8 * (x / 8)) (all_bits body)) (x % 8) opening (omega arith)
-        ∙ get_or-drop (8 * (x / 8)) (all_bits body) (x % 8) opening
-        ∙ ap (λ (p : ℕ). get_or (all_bits body) p opening) place in
-        let a = near.above in
-        let b = near.below in
-        record { closes = bits ∙ at_x.closes; room = omega arith; high = omega arith; near = omega arith }
-
     rest-length : length (drop (x % 8 + 1) (low_bits 8 (get_or body (x / 8) 0))) ≤ 7
     rest-length = omega (arith, length-drop (x % 8 + 1) (low_bits 8 (get_or body (x / 8) 0)), low_bits-length 8 (get_or body (x / 8) 0))
 
-    module _ (here : Scan) (is : here ≡ scan_of (begun e (8 * (x / 8) + x % 8)) (8 * (x / 8) + x % 8 + 1) (drop (x % 8 + 1) (low_bits 8 (get_or body (x / 8) 0)))) where
+    module _ (here : Scan) (is : here ≡ first_byte body x e) where
       pub here-ready : Ready here 256
       here-ready =
           let a = near.above in
@@ -111,7 +125,7 @@ module _ (body : List ℕ) (lent : Lent body) where
           let end : x + 1 + (7 - q) ≡ 8 * (x / 8 + 1) = omega arith in
           let bits : here ≡ scan_of (begun e x) (x + 1) (take (7 - q) (drop (x + 1) (all_bits body))) =
           is ∙ rw place (ap (scan_of (begun e x) (x + 1)) (bits_behind (x / 8) body q h (omega arith) ∙ ap (λ (p : ℕ). take (7 - q) (drop (p + 1) (all_bits body))) place)) in
-          rw end at (from-closing body lent x e (7 - q) (omega arith) true bits)
+          rw end at (from-closing body small x e (7 - q) (omega arith) true bits)
 
       -- what goes on from there
       pub from-here : (b stop : ℕ) (r : Scan) → 8 * (x / 8 + 1) ≤ b → GoesOn body (8 * (x / 8 + 1)) b here stop r → FromClosing body x b e stop r
@@ -137,7 +151,7 @@ module _ (body : List ℕ) (lent : Lent body) where
         is ∙ rw place (ap (scan_of (begun e x) (x + 1)) (bits-within (x / 8) body (x % 8) (y % 8 + 1) w (omega arith) (omega arith) ∙ rw (n, place))) in
         record {
           bound = let l : r.smallest ≤ e = rw is (scan_below (begun e (8 * (x / 8) + x % 8)) (8 * (x / 8) + x % 8 + 1) (drop (x % 8 + 1) (take (y % 8 + 1) (low_bits 8 (get_or body (x / 8) 0))))) in omega arith;
-          right = λ true bounds. rw end at (from-closing body lent x e (y - x) (omega arith) true bits).0;
+          right = λ true bounds. rw end at (from-closing body small x e (y - x) (omega arith) true bits).0;
         }
 
 -- ---- as the code has them
@@ -149,10 +163,10 @@ ready_part {st} w f body h ready = ready-fewer st _ 256 (omega (arith, length-ta
 pub part_length : (w f : ℕ) (body : List ℕ) → length (take w (drop f body)) ≤ w
 part_length w f body = omega (arith, length-take w (drop f body))
 
-module _ (body : List ℕ) (lent : Lent body) where
+module _ (body : List ℕ) (small : length body ≤ 8192) where
   -- from a closing to its block's end
   pub behind_all : (k x e stop : ℕ) (here r : Scan) → ClosingAt body k x → Near e
-      → here ≡ scan_of (begun e (8 * (x / 8) + x % 8)) (8 * (x / 8) + x % 8 + 1) (drop (x % 8 + 1) (low_bits 8 (get_or body (x / 8) 0)))
+      → here ≡ first_byte body x e
       → (end : ℕ) → end ≡ end_of body k → Runs here (8 * (x / 8 + 1)) (take (end - (x / 8 + 1)) (drop (x / 8 + 1) body)) stop r
       → FromClosing body x (8 * end_of body k) e stop r
   behind_all k x e stop here r at_x near is end e' runs =
@@ -162,26 +176,26 @@ module _ (body : List ℕ) (lent : Lent body) where
       let f = x / 8 + 1 in
       let w = end - f in
       let sum : 8 * f + 8 * w ≡ 8 * end_of body k = omega arith in
-      from-here body lent k x e at_x near here is (8 * end_of body k) stop r (omega arith)
-      (rw sum at (goes-all body lent here f w stop r (omega arith) runs))
+      from-here body small k x e at_x near here is (8 * end_of body k) stop r (omega arith)
+      (rw sum at (goes-all body small here f w stop r (omega arith) runs))
 
   -- from a closing up to one in a later byte
   module _ (k x e y stop : ℕ) (here mid : Scan) (at_x : ClosingAt body k x) (near : Near e) (at_y : ClosingAt body k y)
-      (is : here ≡ scan_of (begun e (8 * (x / 8) + x % 8)) (8 * (x / 8) + x % 8 + 1) (drop (x % 8 + 1) (low_bits 8 (get_or body (x / 8) 0)))) (later : x / 8 + 1 ≤ y / 8)
+      (is : here ≡ first_byte body x e) (later : x / 8 + 1 ≤ y / 8)
       (runs : Runs here (8 * (x / 8 + 1)) (take (y / 8 - (x / 8 + 1)) (drop (x / 8 + 1) body)) stop mid) where
     pub within-stopped : mid.smallest ≤ stop → FromClosing body x (y + 1) e stop mid
     within-stopped low =
         let h = at_y.within in
-        from-here body lent k x e at_x near here is (y + 1) stop mid (omega arith)
-        (goes-stopped body lent here (x / 8 + 1) (y / 8 - (x / 8 + 1)) stop mid (omega arith) runs (y + 1) (omega arith) low)
+        from-here body small k x e at_x near here is (y + 1) stop mid (omega arith)
+        (goes-stopped body small here (x / 8 + 1) (y / 8 - (x / 8 + 1)) stop mid (omega arith) runs (y + 1) (omega arith) low)
 
     pub within-through : (r : Scan) → stop < mid.smallest → r ≡ scan_of mid (8 * (y / 8)) (take (y % 8 + 1) (low_bits 8 (get_or body (y / 8) 0))) → FromClosing body x (y + 1) e stop r
     within-through r high through =
         let h = at_y.within in
         let m : x / 8 + 1 + (y / 8 - (x / 8 + 1)) ≡ y / 8 = omega arith in
         let n : 8 * (y / 8) + (y % 8 + 1) ≡ y + 1 = omega arith in
-        from-here body lent k x e at_x near here is (y + 1) stop r (omega arith)
-        (rw (m, n) at (goes_through body lent here (x / 8 + 1) (y / 8 - (x / 8 + 1)) stop mid (omega arith) runs (y % 8 + 1) r (omega arith) (omega arith) high (rw m through)))
+        from-here body small k x e at_x near here is (y + 1) stop r (omega arith)
+        (rw (m, n) at (goes_through body small here (x / 8 + 1) (y / 8 - (x / 8 + 1)) stop mid (omega arith) runs (y % 8 + 1) r (omega arith) (omega arith) high (rw m through)))
 
   -- all of a block
   pub whole_all : (k stop : ℕ) (st r : Scan) → 32 * k ≤ length body → (end : ℕ) → end ≡ end_of body k
@@ -189,4 +203,4 @@ module _ (body : List ℕ) (lent : Lent body) where
   whole_all k stop st r h end e' runs =
       let e : 256 * k ≡ 8 * (32 * k) = omega arith in
       let sum : 8 * (32 * k) + 8 * (end - 32 * k) ≡ 8 * end_of body k = omega arith in
-      rw e (rw sum at (goes-all body lent st (32 * k) (end - 32 * k) stop r (omega arith) (rw e at runs)))
+      rw e (rw sum at (goes-all body small st (32 * k) (end - 32 * k) stop r (omega arith) (rw e at runs)))

@@ -1,6 +1,7 @@
 -- Behind the frame: the checks in their order, by what the code's tests say, and the whole ask by what the frame has said.
 -- Assumes nothing.
-use mathlib.Core.Path.{◌≡◌, sym, ap, ◌∙◌}
+use mathlib.Core.Path.{◌≡◌, sym, ap, subst, subst⁻¹, ◌∙◌}
+use mathlib.Core.Logic.{◌⊎◌}
 use Prim.Native.Nat.{ℕ, ◌-◌, ◌≤◌, ◌<◌}
 use native.Mathlib.Omega.{arith}
 use mathlib.Core.List.{List}
@@ -11,11 +12,14 @@ use lib.Seq.{take_all}
 use Rattle.rules.specs.Bytes.{record_length, parens}
 use Rattle.rules.specs.Refusal.{Outcome, answer, refusal}
 use Rattle.rules.specs.Order.{frame_says, check_says, ask_says}
-use Rattle.rules.specs.Summary.{slots, summary_of, quick_checks, QuickSays}
+use Rattle.rules.specs.Excess.{entry_between}
+use Rattle.rules.specs.Summary.{IsStrange, slots, summary_of, quick_checks, QuickSays}
 use Rattle.rules.proofs.Checked.{not_refused, passed, says_framed, says_checked, parens-length}
 use Rattle.rules.proofs.Summary.{summary-length}
 use Rattle.ask.proofs.Says.{ask_crossed, ask_outside, ask-answered}
-use Rattle.quick.specs.Quick.{Ours, framed_checks, Found, Framed}
+use Rattle.quick.specs.declared.Lent.{Lent}
+use Rattle.quick.specs.Quick.{parens_in, Ours, framed_checks, Framed}
+use Rattle.quick.specs.Stretch.{body, numbers, Found}
 use Rattle.quick.proofs.Beats.{split}
 
 -- no refusal is an answer
@@ -82,16 +86,17 @@ module _ (r t : List ℕ) (n i j : ℕ) where
       pub ask-past : i ≤ j → n ≤ j → Framed r t n i j (refusal 8)
       ask-past h l = refuses 8 (says_past whole room h l)
 
-      pub ask-inside : (o : Outcome) → i ≤ j → j < n → Found (take (length r - 4) (drop 4 r)) t n i j o → Framed r t n i j o
-      ask-inside o h l found =
-          let body : take (length r - 4) (drop 4 r) ≡ drop 4 r = take_all (length r - 4) (drop 4 r) (omega (arith, length-drop 4 r)) in
-          let f : Found (drop 4 r) t n i j o = rw body at found in
+      pub ask-inside : (lent : Lent) (o : Outcome) → body lent ≡ take (length r - 4) (drop 4 r) → numbers lent ≡ t → i ≤ j → j < n → Found lent n i j o → Framed r t n i j o
+      ask-inside lent o behind beside h l found =
+          let bytes : body lent ≡ drop 4 r = behind ∙ take_all (length r - 4) (drop 4 r) (omega (arith, length-drop 4 r)) in
           let e = says-inside whole room h l in
           record {
             refused = λ k g. never k n (sym g ∙ e);
-            allowed = λ m g. f.allowed;
-            named = λ m g. f.named;
-            right = λ m g ours. f.right ours;
+            allowed = λ m g. found.allowed;
+            named = λ m g. subst (λ (u : List ℕ). IsStrange u n i ⊎ IsStrange u n j → o ≡ refusal 9) beside found.named;
+            right = λ m g ours.
+                subst (λ (w : List ℕ). o ≡ answer (entry_between (parens_in w n) i j)) bytes
+                (found.right (subst⁻¹ (λ (w : List ℕ). Ours w (numbers lent) n) bytes (subst⁻¹ (λ (u : List ℕ). Ours (drop 4 r) u n) beside ours)));
           }
 
 -- ---- the whole ask
@@ -141,7 +146,7 @@ module _ (r t : List ℕ) (i j : ℕ) where
           split j i
           (λ h. says.refused 8 (says-crossed r t n i j whole room h) ∙ sym (ask_crossed r i j checks h))
           (λ h. split j n
-          (λ l. says.right n (says-inside r t n i j whole room h l) ours ∙ sym (ask-answered r i j checks h l ∙ rw c.framed.says))
+          (λ l. says.right n (says-inside r t n i j whole room h l) ours ∙ sym (ask-answered r i j checks h l))
           (λ l. says.refused 8 (says_past r t n i j whole room h l) ∙ sym (ask_outside r i j checks h l)))
 
     pub framed-asks : (o : Outcome) → Framed r t n i j o → QuickSays r t i j o

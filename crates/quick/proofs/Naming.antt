@@ -4,55 +4,52 @@ use mathlib.Core.Path.{◌≡◌, refl}
 use mathlib.Core.Logic.{⊎_elim}
 use Prim.Native.Nat.{ℕ, ◌/◌, ◌≤◌, ◌<◌}
 use native.Mathlib.Omega.{arith}
-use mathlib.Core.List.{List}
+use Rattle.std.specs.Prelude.{Some, None}
 use Rattle.rules.specs.Refusal.{Outcome, refusal}
 use Rattle.rules.specs.Summary.{blocks_for}
 use Rattle.blocks.specs.Search.{StandsIn}
-use Rattle.quick.specs.Quick.{parens_in, Ours, closing_in, Asks, Spans, Found}
-use Rattle.quick.proofs.Ours.{closing_low, closings-order}
+use Rattle.quick.specs.declared.Lent.{Lent}
+use Rattle.quick.specs.declared.Stretch.{Stretch}
+use Rattle.quick.specs.Quick.{parens_in, Ours, closing_in}
+use Rattle.quick.specs.Stretch.{body, numbers, Asks, Spans, Found}
+use Rattle.quick.proofs.Ours.{closings-order}
 
--- the block in which closing k stands is among the record's
-named-block : (body t : List ℕ) (n k a : ℕ) → Ours body t n → k < n → StandsIn t (blocks_for n) k a → (closing_in body n k / 256 ≡ a) × (a < blocks_for n)
-named-block body t n k a ours h there =
-    let e : closing_in body n k / 256 ≡ a = there.right (parens_in body n) n ours.own h refl in
-    let l = closing_low body t n ours k h in
-    (e, omega arith)
+-- the block that the record's own summary names
+named-block : (lent : Lent) (m k a : ℕ) → StandsIn (numbers lent) (blocks_for m) k (Some a) → Ours (body lent) (numbers lent) m → k < m → closing_in (body lent) m k / 256 ≡ a
+named-block lent m k a names ours h =
+    let e : Some a ≡ Some (closing_in (body lent) m k / 256) = names.right (parens_in (body lent) m) m ours.own h refl in
+    cc
 
-module _ (body t : List ℕ) (m i j : ℕ) (order : i ≤ j) (among : j < m) where
-  nine : (Ours body t m → 1 ≤ 0) → Found body t m i j (refusal 9)
-  nine h = record { allowed = refl; named = λ s. refl; right = λ ours. absurd (omega (arith, h ours)) }
+module _ (lent : Lent) (m i j : ℕ) (order : i ≤ j) (among : j < m) where
+  nine : (Ours (body lent) (numbers lent) m → ⊥) → Found lent m i j (refusal 9)
+  nine h = record { allowed = refl; named = λ s. refl; right = λ ours. absurd (h ours) }
 
   -- the summary names no block of the record
-  pub first_missing : (a : ℕ) → StandsIn t (blocks_for m) i a → blocks_for m ≤ a → Found body t m i j (refusal 9)
-  first_missing a first h = nine (λ ours. omega (arith, (named-block body t m i a ours (omega arith) first).1))
+  pub missing : (k : ℕ) → k ≤ j → StandsIn (numbers lent) (blocks_for m) k None → Found lent m i j (refusal 9)
+  missing k h names =
+      nine (λ ours. let e : None ≡ Some (closing_in (body lent) m k / 256) = names.right (parens_in (body lent) m) m ours.own (omega arith) refl in cc)
 
-  pub last_missing : (b : ℕ) → StandsIn t (blocks_for m) j b → blocks_for m ≤ b → Found body t m i j (refusal 9)
-  last_missing b last h = nine (λ ours. omega (arith, (named-block body t m j b ours among last).1))
+  -- or the two are crossed
+  pub crossed : (a b : ℕ) → StandsIn (numbers lent) (blocks_for m) i (Some a) → StandsIn (numbers lent) (blocks_for m) j (Some b) → b < a → Found lent m i j (refusal 9)
+  crossed a b first last h =
+      nine (λ ours. omega (arith, named-block lent m i a first ours (omega arith), named-block lent m j b last ours among, closings-order (body lent) (numbers lent) m ours i j order among))
 
-  module _ (a b : ℕ) (first : StandsIn t (blocks_for m) i a) (last : StandsIn t (blocks_for m) j b) where
-    -- or the two blocks are crossed
-    pub blocks-crossed : b < a → Found body t m i j (refusal 9)
-    blocks-crossed h =
-        nine (λ ours.
-        let x : closing_in body m i / 256 ≡ a = (named-block body t m i a ours (omega arith) first).0 in
-        let y : closing_in body m j / 256 ≡ b = (named-block body t m j b ours among last).0 in
-        omega (arith, closings-order body t m ours i j order among))
-
-    -- or both are the record's
-    pub blocks-found : (o : Outcome) → a < blocks_for m → b < blocks_for m → Spans body t a b i j o → Found body t m i j o
-    blocks-found o few-a few-b spans =
+-- or both are the record's
+pub spanned : (s : Stretch) (m : ℕ) (o : Outcome) → s.j < m → StandsIn (numbers s.lent) (blocks_for m) s.i (Some s.a) → StandsIn (numbers s.lent) (blocks_for m) s.j (Some s.b)
+    → Spans s o → Found s.lent m s.i s.j o
+spanned s m o among first last spans =
+    record {
+      allowed = spans.allowed;
+      named = ⊎_elim (λ h. let e : Some s.a ≡ None = first.strange h in cc) (λ h. let e : Some s.b ≡ None = last.strange h in cc);
+      right = λ ours. spans.right m (asks ours);
+    }
+  where
+    asks : Ours (body s.lent) (numbers s.lent) m → Asks s m
+    asks ours =
+        let o = s.order in
         record {
-          allowed = spans.allowed;
-          named = ⊎_elim (λ s. absurd (omega (arith, first.strange s))) (λ s. absurd (omega (arith, last.strange s)));
-          right = λ ours. spans.right m (asks ours);
+          ours = ours;
+          among = among;
+          first = named-block s.lent m s.i s.a first ours (omega arith);
+          last = named-block s.lent m s.j s.b last ours among;
         }
-      where
-        asks : Ours body t m → Asks body t m a b i j
-        asks ours =
-            record {
-              ours = ours;
-              order = order;
-              among = among;
-              first = first.right (parens_in body m) m ours.own (omega arith) refl;
-              last = last.right (parens_in body m) m ours.own among refl;
-            }

@@ -1,13 +1,16 @@
 -- Where a closing stands in a block: by the bits of the block for any bytes, and the right one for a record's own summary.
 -- Assumes nothing.
-use mathlib.Core.Path.{◌≡◌, refl, sym, ap, ap₂, ◌∙◌}
+use mathlib.Core.Path.{◌≡◌, refl, sym, ap, ◌∙◌}
 use mathlib.Core.Logic.{◌⊎◌, inl, inr}
 use Prim.Native.Nat.{ℕ, ◌+◌, ◌-◌, ◌*◌, ◌/◌, ◌≤◌, ◌<◌}
 use native.Mathlib.Nat.{eq-zero-or-pos}
 use native.Mathlib.Omega.{arith}
-use mathlib.Core.Bool.{Bool, true, false, cond}
+use mathlib.Core.Bool.{Bool, true, false}
 use mathlib.Core.Logic.{⊎_elim}
 use mathlib.Core.List.{List}
+use Rattle.std.specs.Prelude.{Option, Some, None, Ok, Err, IsSomeAnd}
+use Rattle.answers.specs.declared.Refusal.TheVariants.{Foreign}
+use Rattle.answers.specs.Said.{Answer}
 use borrow.Author.Tests.{lt-ltb, ltb-true, ltb-false}
 use lib.Dec.{ltb}
 use lib.ListN.{length, take, drop, get_or, length-drop, length-take}
@@ -20,15 +23,13 @@ use Rattle.rules.proofs.ClosingPlace.{closing-within}
 use Rattle.rules.proofs.Parts.{closing-closes}
 use Rattle.rules.proofs.Blocks.{closing-from, in_block_lem, excess-closings}
 use Rattle.blocks.specs.Search.{Before}
-use Rattle.blocks.specs.Select.{select_of}
-use Rattle.quick.specs.Part.{end_of, ClosingAt}
-use Rattle.quick.specs.Quick.{parens_in, Ours, closing_in, Block}
+use Rattle.blocks.specs.Select.{select_of, Selects}
+use Rattle.quick.specs.declared.Lent.{Lent}
+use Rattle.quick.specs.Part.{end_of, Block, ClosingAt}
+use Rattle.quick.specs.Quick.{parens_in, Ours, closing_in}
+use Rattle.quick.specs.Stretch.{body, numbers, Stands}
 use Rattle.quick.proofs.Parts.{bits-take, bits-drop}
 use Rattle.quick.proofs.Ours.{closings_n, closings_all, closing_same, closing_low}
-
--- the excess before a block is one of the summary's numbers, or 0
-pub before_small : {t : List ℕ} {k r : ℕ} → Before t k r → ((m : ℕ) → get_or t m 0 ≤ 65535) → r ≤ 65535
-before_small {t} {k} b h = ⊎_elim (λ z. omega (arith, b.first z)) (λ p. omega (arith, b.later p, h (k - 1))) (eq-zero-or-pos k)
 
 -- ---- the bits of block k
 
@@ -62,27 +63,19 @@ module _ (body : List ℕ) (k : ℕ) (block : Block body k) where
       omega (arith, length-take 256 (drop (256 * k) (all_bits body)), length-drop (256 * k) (all_bits body), all_bits-length body)
 
   -- a place that select finds is a closing's
-  pub selected : (m x : ℕ) → x ≡ select_of (all_bits (take (end_of body k - 32 * k) (drop (32 * k) body))) m → x < 8 * (end_of body k - 32 * k) → ClosingAt body k (256 * k + x)
+  pub selected : (m x : ℕ) → Selects (all_bits (take (end_of body k - 32 * k) (drop (32 * k) body))) m (Some x) → ClosingAt body k (256 * k + x)
   unfolding select_of
-  selected m x e h =
+  selected m x found =
       let bits = take 256 (drop (256 * k) (all_bits body)) in
-      by (ltb m (closings bits)) refl (e ∙ rw block-bits)
-    where
-      by : (y : Bool) → ltb m (closings (take 256 (drop (256 * k) (all_bits body)))) ≡ y
-          → x ≡ cond (ltb m (closings (take 256 (drop (256 * k) (all_bits body))))) (closing_place (take 256 (drop (256 * k) (all_bits body))) m) (length (take 256 (drop (256 * k) (all_bits body))))
-          → ClosingAt body k (256 * k + x)
-      by true f g =
-          let bits = take 256 (drop (256 * k) (all_bits body)) in
-          let is : x ≡ closing_place bits m = g ∙ rw f in
-          let l : length bits ≡ 8 * (end_of body k - 32 * k) = bits-length in
-          let s = block.starts in
-          let c : get_or bits x opening ≡ closing = ap (λ (p : ℕ). get_or bits p opening) is ∙ closing-closes bits m (ltb-true m (closings bits) f) in
-          let d : get_or bits x opening ≡ get_or (all_bits body) (256 * k + x) opening =
-          get_or-take 256 (drop (256 * k) (all_bits body)) x opening (omega arith) ∙ get_or-drop (256 * k) (all_bits body) x opening in
-          record { from = omega arith; upto = omega arith; within = omega arith; closes = sym d ∙ c }
-      by false f g =
-          let is : x ≡ length (take 256 (drop (256 * k) (all_bits body))) = g ∙ rw f in
-          absurd (omega (arith, bits-length))
+      let (among, stands) = rw block-bits at found in
+      let is : x ≡ closing_place bits m = stands ∙ rw (lt-ltb m (closings bits) among) in
+      let w = closing-within bits m among in
+      let l : length bits ≡ 8 * (end_of body k - 32 * k) = bits-length in
+      let s = block.starts in
+      let c : get_or bits x opening ≡ closing = ap (λ (p : ℕ). get_or bits p opening) is ∙ closing-closes bits m among in
+      let d : get_or bits x opening ≡ get_or (all_bits body) (256 * k + x) opening =
+      get_or-take 256 (drop (256 * k) (all_bits body)) x opening (omega arith) ∙ get_or-drop (256 * k) (all_bits body) x opening in
+      record { from = omega arith; upto = omega arith; within = omega arith; closes = sym d ∙ c }
 
 -- ---- the record's own
 
@@ -107,13 +100,13 @@ module _ (body t : List ℕ) (n k i : ℕ) (ours : Ours body t n) (among : i < n
   passed : closings (take (256 * k) (parens_in body n)) ≤ i
   passed = closing-from (parens_in body n) i (256 * k) (omega (arith, closings_n body t n ours)) (omega arith)
 
-  pub not_before : 256 * k ≤ 2 * i + e
+  not_before : 256 * k ≤ 2 * i + e
   not_before = omega (arith, counted, passed)
 
-  pub right_there : Block body k → (x : ℕ) → x ≡ select_of (all_bits (take (end_of body k - 32 * k) (drop (32 * k) body))) ((2 * i + e - 256 * k) / 2)
-      → (x < 8 * (end_of body k - 32 * k)) × (256 * k + x ≡ closing_in body n i)
+  right_there : Block body k → (r : Option ℕ) → Selects (all_bits (take (end_of body k - 32 * k) (drop (32 * k) body))) ((2 * i + e - 256 * k) / 2) r
+      → IsSomeAnd r (λ x. 256 * k + x ≡ closing_in body n i)
   unfolding select_of
-  right_there block x f =
+  right_there block r found =
       let u = all_bits body in
       let bits = take 256 (drop (256 * k) u) in
       let w = low in
@@ -122,7 +115,37 @@ module _ (body t : List ℕ) (n k i : ℕ) (ours : Ours body t n) (among : i < n
       let all : n ≤ closings u = closings_all body t n ours in
       let at : closing_place u i ≡ closing_in body n i = closing_same body t n ours i among in
       let p = in_block_lem u i k (omega arith) (ap (◌/ 256) at ∙ there) in
-      let g : x ≡ closing_place bits (i - closings (take (256 * k) u)) =
-      f ∙ ap₂ select_of (block-bits body k block) m ∙ rw (lt-ltb (i - closings (take (256 * k) u)) (closings bits) p.among) in
-      let within = closing-within bits (i - closings (take (256 * k) u)) p.among in
-      (omega (arith, bits-length body k block), ap (256 * k +◌) g ∙ sym p.stands ∙ at)
+      by r (rw (block-bits body k block, m) at found) p.among (sym p.stands ∙ at)
+    where
+      by : (r : Option ℕ) → Selects (take 256 (drop (256 * k) (all_bits body))) (i - closings (take (256 * k) (all_bits body))) r
+          → i - closings (take (256 * k) (all_bits body)) < closings (take 256 (drop (256 * k) (all_bits body)))
+          → 256 * k + closing_place (take 256 (drop (256 * k) (all_bits body))) (i - closings (take (256 * k) (all_bits body))) ≡ closing_in body n i
+          → IsSomeAnd r (λ x. 256 * k + x ≡ closing_in body n i)
+      by None few more at = absurd (omega (arith, few, more))
+      by (Some x) found more at = ap (256 * k +◌) (found.1 ∙ rw (lt-ltb _ _ more)) ∙ at
+
+-- ---- as the code has them
+
+-- closing i, by what select says of the block's bits
+abbrev pub placed : ℕ → Option ℕ → Answer
+placed k None = Err Foreign
+placed k (Some x) = Ok (256 * k + x)
+
+module _ (lent : Lent) (k i : ℕ) (block : Block (body lent) k) (e : ℕ) (before : Before (numbers lent) k e) where
+  pub not_there : 2 * i + e < 256 * k → Stands lent k i (Err Foreign)
+  not_there h =
+      record { there = tt; nine = refl; right = λ n ours among at. omega (arith, not_before (body lent) (numbers lent) n k i ours among at e before, h) }
+
+  pub stands_there : (end : ℕ) → end ≡ end_of (body lent) k → (r : Option ℕ) → Selects (all_bits (take (end - 32 * k) (drop (32 * k) (body lent)))) ((2 * i + e - 256 * k) / 2) r
+      → Stands lent k i (placed k r)
+  stands_there end is r found = by r (rw is at found)
+    where
+      by : (r : Option ℕ) → Selects (all_bits (take (end_of (body lent) k - 32 * k) (drop (32 * k) (body lent)))) ((2 * i + e - 256 * k) / 2) r → Stands lent k i (placed k r)
+      by None found =
+          record { there = tt; nine = refl; right = λ n ours among at. absurd (right_there (body lent) (numbers lent) n k i ours among at e before block None found) }
+      by (Some x) found =
+          record {
+            there = selected (body lent) k block _ x found;
+            nine = tt;
+            right = λ n ours among at. right_there (body lent) (numbers lent) n k i ours among at e before block (Some x) found;
+          }

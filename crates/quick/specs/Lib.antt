@@ -1,3 +1,4 @@
 pub mod Lowest
 pub mod Part
 pub mod Quick
+pub mod Stretch

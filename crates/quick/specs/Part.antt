@@ -1,5 +1,5 @@
 -- Parts of a record's body, for any bytes whatever: what a scan of a part finds is said by the excesses alone.
-use Rattle.std.specs.Prelude.{◌≡◌, ◌⊎◌, ℕ, min, ◌+◌, ◌-◌, ◌*◌, ◌/◌, ◌≤◌, ◌<◌, List, length, take, get_or}
+use Rattle.std.specs.Prelude.{◌≡◌, ◌⊎◌, ℕ, min, ◌+◌, ◌-◌, ◌*◌, ◌/◌, ◌%◌, ◌≤◌, ◌<◌, List, length, take, get_or}
 use Rattle.rules.specs.Shape.{opening, closing}
 use Rattle.rules.specs.Excess.{openings, closings, closing_place, excess}
 use Rattle.rules.specs.Bytes.{low_bits, all_bits}
@@ -22,6 +22,11 @@ level body p = ground_level + openings (take p (all_bits body)) - closings (take
 abbrev pub end_of : List ℕ → ℕ → ℕ
 end_of body k = min (32 * k + 32) (length body)
 
+-- block k begins in the body
+pub record Block (body : List ℕ) (k : ℕ) : Type 0 where
+  pub few : k ≤ 255
+  pub starts : 32 * k ≤ length body
+
 -- a closing stands at place x, in block k
 pub record ClosingAt (body : List ℕ) (k x : ℕ) : Type 0 where
   pub from : 256 * k ≤ x
@@ -29,13 +34,17 @@ pub record ClosingAt (body : List ℕ) (k x : ℕ) : Type 0 where
   pub within : x < 8 * length body
   pub closes : get_or (all_bits body) x opening ≡ closing
 
--- a body that a frame has let by, and an excess that a place can have, whatever a summary says
-pub record Lent (body : List ℕ) : Type 0 where
-  pub few : length body ≤ 8192
-
+-- an excess that a place can have, whatever a summary says
 pub record Near (e : ℕ) : Type 0 where
   pub above : 4096 ≤ e
   pub below : e ≤ 262144
+
+-- a scan begins with the closing at place x, after which the excess is e: in byte b, whose first bit stands at place at, with bit q
+pub record Begun (body : List ℕ) (x e at b q e' : ℕ) : Type 0 where
+  pub first : at ≡ 8 * (x / 8)
+  pub byte : b ≡ get_or body (x / 8) 0
+  pub bit : q ≡ x % 8
+  pub excess : e' ≡ e
 
 -- some of the bytes were read: all of them, or as many as it took to come as low as stop
 pub record Runs (st : Scan) (at : ℕ) (part : List ℕ) (stop : ℕ) (r : Scan) : Type 0 where

@@ -5,269 +5,279 @@
 
 mod part;
 
-ghost use Rattle.std.specs.Prelude.{◌≡◌, ◌+◌, ◌*◌, ◌≤◌, ◌<◌, length, get_or};
+ghost use Rattle.std.specs.Prelude.{◌≡◌, ℕ, ◌+◌, ◌*◌, ◌≤◌, ◌<◌, length, get_or};
 ghost use Rattle.tree.specs.Tree.{Between};
-ghost use Rattle.scan.specs.Rows.{rows as table};
+ghost use Rattle.blocks.specs.Search.{Before};
 ghost use Rattle.answers.specs.Said.{said};
 ghost use Rattle.rules.specs.Bytes.{bytes_for, record_length};
 ghost use Rattle.rules.specs.Summary.{QuickSays};
-ghost use Rattle.quick.specs.Part.{ground_level, ClosingAt, Near};
-ghost use Rattle.quick.specs.Quick.{Given, Block, Stands, Names, Finishes, Beyond, Apart, Spans, Found, Framed};
+ghost use Rattle.quick.specs.Part.{ground_level, Block, ClosingAt};
+ghost use Rattle.quick.specs.Quick.{Framed};
 
-use answers::{Answer, Refusal};
+use answers::Refusal;
+use part::{Body, Closing};
 use scan::Scan;
+use slots::Summary;
 use tree::Best;
 
 // Excesses are counted from here: above twice the number of any entry, so that none is below 0 whatever the
 // summary says.
 const GROUND: usize = 131072;
 
-// The number of the entry whose closing stands at this place, after which the excess is e; 9 where that is
-// none from i to j.
-fn entry(place: usize, e: usize, i: usize, j: usize) -> Answer
-    requires { e ≤ 1048576 }
-    ensures { Names place e i j (said result) }
-{
-    if GROUND < place {
-        return Answer::Refused(Refusal::Foreign);
-    }
-    let up = place + 1 + GROUND;
-    if up < e + 2 {
-        return Answer::Refused(Refusal::Foreign);
-    }
-    let q = (up - e) / 2 - 1;
-    if q < i {
-        return Answer::Refused(Refusal::Foreign);
-    }
-    if j < q {
-        return Answer::Refused(Refusal::Foreign);
-    }
-    Answer::Is(q)
+// A record's body, and beside it the numbers that are lent as its summary.
+#[derive(Clone, Copy)]
+struct Lent<'a> {
+    body: Body<'a>,
+    summary: Summary<'a>,
+    ghost small: { (m : ℕ) → get_or summary.numbers.now m 0 ≤ 65535 },
 }
 
-// The leaf of block k, counted from the ground.
-fn leaf(t: &[u16], k: usize) -> usize
-    requires { (896 ≤ length t.now) × (k ≤ 255) }
-    ensures { (result ≡ ground_level + get_or t.now (512 + k) 0) × (result ≤ 196607) }
-{
-    GROUND + (t[512 + k] as usize)
+impl<'a> Lent<'a> {
+    ghost use Rattle.quick.specs.Stretch.{Stands, Found};
+
+    // The leaf of block k, counted from the ground.
+    fn leaf(&self, k: usize) -> usize
+        requires { k ≤ 255 }
+        ensures { (result ≡ ground_level + get_or self.now.summary.numbers.now (512 + k) 0) × (result ≤ 196607) }
+    {
+        GROUND + self.summary.leaf(k)
+    }
+
+    // The excess before block k.
+    fn before(&self, k: usize) -> usize
+        requires { k ≤ 255 }
+        ensures { Before self.now.summary.numbers.now k result × (result ≤ 65535) }
+    {
+        blocks::before(self.summary, k)
+    }
+
+    // The place where closing number i stands, in block k: by the excess before the block, and the block's bits.
+    // Inlined, since each caller tells at once which it is, and neither goes through memory.
+    #[inline(always)]
+    fn stands(&self, k: usize, i: usize) -> Result<usize, Refusal>
+        requires { Block self.now.body.bytes.now k × (i < 32768) }
+        ensures { Stands self.now k i result }
+    {
+        let e = self.before(k);
+        if 2 * i + e < 256 * k {
+            return Err(Refusal::Foreign);
+        }
+        let from = 32 * k;
+        let end = self.body.end_of(k);
+        let bits = &self.body.bytes[from..end];
+        let x = blocks::select(bits, (2 * i + e - 256 * k) / 2).ok_or(Refusal::Foreign)?;
+        Ok(256 * k + x)
+    }
+
+    // By the two blocks that the summary names.
+    fn found(&self, n: usize, i: usize, j: usize) -> Result<usize, Refusal>
+        requires { (length self.now.body.bytes.now ≡ bytes_for n) × (i ≤ j) × (j < n) × (n ≤ 32768) }
+        ensures { Found self.now n i j (said result) }
+    {
+        let count = (2 * n + 255) / 256;
+        let a = blocks::block(self.summary, count, i).ok_or(Refusal::Foreign)?;
+        let b = blocks::block(self.summary, count, j).ok_or(Refusal::Foreign)?;
+        if b < a {
+            return Err(Refusal::Foreign);
+        }
+        let stretch = Stretch {
+            lent: *self,
+            a,
+            b,
+            i,
+            j,
+        };
+        stretch.between()
+    }
 }
 
-// Where closing number i stands, in block k: by the excess before the block, and the block's bits. 131,072 is
-// no place.
-fn stands(body: &[u8], t: &[u16], k: usize, i: usize) -> usize
-    requires { Given body.now t.now × Block body.now k × (i < 32768) }
-    ensures { Stands body.now t.now k i result }
-{
-    let e = blocks::before(t, k);
-    if 2 * i + e < 256 * k {
-        return GROUND;
-    }
-    let from = 32 * k;
-    let end = part::end_of(body, k);
-    let x = blocks::select(&body[from..end], (2 * i + e - 256 * k) / 2);
-    if 8 * (end - from) <= x {
-        return GROUND;
-    }
-    256 * k + x
-}
-
-// The last block's part, where it can be lower than what stands lowest so far.
-fn finish(rows: &scan::RowTable, body: &[u8], t: &[u16], b: usize, j: usize, best: Scan) -> Scan
-    requires { (rows.now ≡ table) × Given body.now t.now × Block body.now b × (j < 32768) × (best.smallest ≤ 1048576) }
-    ensures { Finishes body.now t.now b j best result }
-{
-    let low = leaf(t, b);
-    if best.smallest <= low {
-        return best;
-    }
-    let start = Scan {
-        excess: GROUND + blocks::before(t, b),
-        smallest: best.smallest,
-        place: best.place,
-    };
-    part::upto(start, rows, body, b, j, low)
-}
-
-// Where a block between the first and the last stands lowest so far: the last one's part, and if that is not
-// lower, the block that the tree leads to.
-fn beyond(
-    rows: &scan::RowTable,
-    body: &[u8],
-    t: &[u16],
+// What is asked: from closing i, looked for in block a, to closing j, in block b.
+#[derive(Clone, Copy)]
+struct Stretch<'a> {
+    lent: Lent<'a>,
     a: usize,
     b: usize,
-    best: Best,
     i: usize,
     j: usize,
-) -> Answer
-    requires { (rows.now ≡ table) × Given body.now t.now × (a < b) × Block body.now b × (j < 32768) × Between t.now a b best }
-    ensures { Beyond body.now t.now a b best i j (said result) }
-{
-    if a + 1 == b {
-        return Answer::Refused(Refusal::Foreign);
-    }
-    let mid = GROUND + best.low;
-    let none = Scan {
-        excess: 0,
-        smallest: mid,
-        place: 0,
-    };
-    let end = finish(rows, body, t, b, j, none);
-    if end.smallest < mid {
-        return entry(end.place, end.smallest, i, j);
-    }
-    let k = tree::descend(t, best.node, best.level);
-    let inner = part::whole(rows, body, k, GROUND + blocks::before(t, k), mid);
-    entry(inner.place, inner.smallest, i, j)
+    ghost ordered: { a ≤ b },
+    ghost last: { Block lent.body.bytes.now b },
+    ghost order: { i ≤ j },
+    ghost few: { j < 32768 },
 }
 
-// The excess after closing i, which stands at place x.
-fn excess_after(x: usize, i: usize) -> usize
-    requires { (x < 65536) × (i < 32768) }
-    ensures { (result + 2 * (i + 1) ≡ ground_level + (x + 1)) × Near result }
-{
-    GROUND + x + 1 - 2 * (i + 1)
-}
+impl<'a> Stretch<'a> {
+    ghost use Rattle.quick.specs.Stretch.{First, Names, Finishes, Beyond, Apart, Spans};
 
-// Two blocks, of which the first may have the lowest place: its part, then what follows it.
-fn from_first(
-    body: &[u8],
-    t: &[u16],
-    a: usize,
-    b: usize,
-    x: usize,
-    e: usize,
-    best: Best,
-    i: usize,
-    j: usize,
-) -> Answer
-    requires { Given body.now t.now × (a < b) × Block body.now b × (j < 32768) × ClosingAt body.now a x × Near e × Between t.now a b best }
-    ensures { Apart body.now t.now a b x e i j (said result) }
-{
-    let rows = scan::table();
-    let first = part::behind(&rows, body, a, x, e, leaf(t, a));
-    if first.smallest <= GROUND + best.low {
-        let end = finish(&rows, body, t, b, j, first);
-        return entry(end.place, end.smallest, i, j);
+    // The number of the entry whose closing stands where a scan has found the smallest excess; 9 where that is
+    // none from i to j.
+    fn entry(&self, end: Scan) -> Result<usize, Refusal>
+        requires { end.smallest ≤ 1048576 }
+        ensures { Names self.now end (said result) }
+    {
+        if GROUND < end.place {
+            return Err(Refusal::Foreign);
+        }
+        let up = end.place + 1 + GROUND;
+        if up < end.smallest + 2 {
+            return Err(Refusal::Foreign);
+        }
+        let q = (up - end.smallest) / 2 - 1;
+        if q < self.i {
+            return Err(Refusal::Foreign);
+        }
+        if self.j < q {
+            return Err(Refusal::Foreign);
+        }
+        Ok(q)
     }
-    beyond(&rows, body, t, a, b, best, i, j)
-}
 
-// Two blocks: where one between is lower than all of the first, the first is not read.
-fn apart(body: &[u8], t: &[u16], a: usize, b: usize, i: usize, j: usize) -> Answer
-    requires { Given body.now t.now × (a < b) × Block body.now b × (i ≤ j) × (j < 32768) }
-    ensures { Spans body.now t.now a b i j (said result) }
-{
-    let best = tree::climb(t, a, b);
-    if GROUND + best.low < leaf(t, a) {
-        let rows = scan::table();
-        return beyond(&rows, body, t, a, b, best, i, j);
+    // Closing i, looked for in block a, and the excess after it.
+    fn first(&self) -> Result<Closing, Refusal>
+        ensures { First self.now result }
+    {
+        let place = self.lent.stands(self.a, self.i)?;
+        Ok(Closing {
+            place,
+            excess: GROUND + place + 1 - 2 * (self.i + 1),
+        })
     }
-    let x = stands(body, t, a, i);
-    if x == GROUND {
-        return Answer::Refused(Refusal::Foreign);
-    }
-    from_first(body, t, a, b, x, excess_after(x, i), best, i, j)
-}
 
-// One block: from closing to closing. Where closing i is as low as the block goes, nothing is scanned.
-fn same(body: &[u8], t: &[u16], a: usize, i: usize, j: usize) -> Answer
-    requires { Given body.now t.now × Block body.now a × (i ≤ j) × (j < 32768) }
-    ensures { Spans body.now t.now a a i j (said result) }
-{
-    let x = stands(body, t, a, i);
-    if x == GROUND {
-        return Answer::Refused(Refusal::Foreign);
+    // The last block's part, where it can be lower than what stands lowest so far.
+    fn finish(&self, best: Scan) -> Scan
+        requires { best.smallest ≤ 1048576 }
+        ensures { Finishes self.now best result }
+    {
+        let low = self.lent.leaf(self.b);
+        if best.smallest <= low {
+            return best;
+        }
+        let start = Scan {
+            excess: GROUND + self.lent.before(self.b),
+            smallest: best.smallest,
+            place: best.place,
+        };
+        self.lent.body.upto(start, self.b, self.j, low)
     }
-    let e = excess_after(x, i);
-    let low = leaf(t, a);
-    if e <= low {
-        return Answer::Is(i);
-    }
-    let y = stands(body, t, a, j);
-    if y == GROUND {
-        return Answer::Refused(Refusal::Foreign);
-    }
-    if y < x {
-        return Answer::Refused(Refusal::Foreign);
-    }
-    let rows = scan::table();
-    let end = part::within(&rows, body, a, x, e, y, low);
-    entry(end.place, end.smallest, i, j)
-}
 
-// From closing i in block a to closing j in block b. Where closing i is as low as the tree says that any of
-// these blocks goes, nothing is scanned.
-fn between(body: &[u8], t: &[u16], a: usize, b: usize, i: usize, j: usize) -> Answer
-    requires { Given body.now t.now × (a ≤ b) × Block body.now b × (i ≤ j) × (j < 32768) }
-    ensures { Spans body.now t.now a b i j (said result) }
-{
-    if a == b {
-        return same(body, t, a, i, j);
+    // Where a block between the first and the last stands lowest so far: the last one's part, and if that is not
+    // lower, the block that the tree leads to.
+    fn beyond(&self, best: Best) -> Result<usize, Refusal>
+        requires { (self.now.a < self.now.b) × Between self.now.lent.summary.numbers.now self.now.a self.now.b best }
+        ensures { Beyond self.now best (said result) }
+    {
+        if self.a + 1 == self.b {
+            return Err(Refusal::Foreign);
+        }
+        let mid = GROUND + best.low;
+        let none = Scan {
+            excess: 0,
+            smallest: mid,
+            place: 0,
+        };
+        let end = self.finish(none);
+        if end.smallest < mid {
+            return self.entry(end);
+        }
+        let k = tree::descend(self.lent.summary, best.node, best.level);
+        let before = GROUND + self.lent.before(k);
+        self.entry(self.lent.body.whole(k, before, mid))
     }
-    let low = GROUND + tree::over(t, a, b);
-    if low < leaf(t, a) {
-        return apart(body, t, a, b, i, j);
-    }
-    let x = stands(body, t, a, i);
-    if x == GROUND {
-        return Answer::Refused(Refusal::Foreign);
-    }
-    let e = excess_after(x, i);
-    if e <= low {
-        return Answer::Is(i);
-    }
-    from_first(body, t, a, b, x, e, tree::climb(t, a, b), i, j)
-}
 
-// By the two blocks that the summary names.
-fn found(body: &[u8], t: &[u16], n: usize, i: usize, j: usize) -> Answer
-    requires { Given body.now t.now × (length body.now ≡ bytes_for n) × (i ≤ j) × (j < n) × (n ≤ 32768) }
-    ensures { Found body.now t.now n i j (said result) }
-{
-    let count = (2 * n + 255) / 256;
-    let a = blocks::block(t, count, i);
-    if count <= a {
-        return Answer::Refused(Refusal::Foreign);
+    // Two blocks, of which the first may have the lowest place: its part, then what follows it.
+    fn from_first(&self, first: Closing, best: Best) -> Result<usize, Refusal>
+        requires { (self.now.a < self.now.b) × ClosingAt self.now.lent.body.bytes.now self.now.a first.place × Between self.now.lent.summary.numbers.now self.now.a self.now.b best }
+        ensures { Apart self.now first (said result) }
+    {
+        let part = self.lent.body.behind(self.a, first, self.lent.leaf(self.a));
+        if part.smallest <= GROUND + best.low {
+            return self.entry(self.finish(part));
+        }
+        self.beyond(best)
     }
-    let b = blocks::block(t, count, j);
-    if count <= b {
-        return Answer::Refused(Refusal::Foreign);
+
+    // Two blocks: where one between is lower than all of the first, the first is not read.
+    fn apart(&self) -> Result<usize, Refusal>
+        requires { self.now.a < self.now.b }
+        ensures { Spans self.now (said result) }
+    {
+        let best = tree::climb(self.lent.summary, self.a, self.b);
+        if GROUND + best.low < self.lent.leaf(self.a) {
+            return self.beyond(best);
+        }
+        self.from_first(self.first()?, best)
     }
-    if b < a {
-        return Answer::Refused(Refusal::Foreign);
+
+    // One block: from closing to closing. Where closing i is as low as the block goes, nothing is scanned.
+    fn same(&self) -> Result<usize, Refusal>
+        requires { self.now.a ≡ self.now.b }
+        ensures { Spans self.now (said result) }
+    {
+        let first = self.first()?;
+        let low = self.lent.leaf(self.a);
+        if first.excess <= low {
+            return Ok(self.i);
+        }
+        let y = self.lent.stands(self.a, self.j)?;
+        if y < first.place {
+            return Err(Refusal::Foreign);
+        }
+        self.entry(self.lent.body.within(self.a, first, y, low))
     }
-    between(body, t, a, b, i, j)
+
+    // From closing i to closing j. Where closing i is as low as the tree says that any of the blocks goes, nothing
+    // is scanned.
+    fn between(&self) -> Result<usize, Refusal>
+        ensures { Spans self.now (said result) }
+    {
+        if self.a == self.b {
+            return self.same();
+        }
+        let low = GROUND + tree::over(self.lent.summary, self.a, self.b);
+        if low < self.lent.leaf(self.a) {
+            return self.apart();
+        }
+        let first = self.first()?;
+        if first.excess <= low {
+            return Ok(self.i);
+        }
+        self.from_first(first, tree::climb(self.lent.summary, self.a, self.b))
+    }
 }
 
 // Behind the frame: 11, 3, 8, then an answer or 9.
-fn framed(bytes: &[u8], t: &[u16], n: usize, i: usize, j: usize) -> Answer
+fn framed<'a>(
+    bytes: &'a [u8],
+    numbers: &'a [u16],
+    n: usize,
+    i: usize,
+    j: usize,
+) -> Result<usize, Refusal>
     requires { (record_length n ≤ length bytes.now) × (n ≤ 32768) }
-    ensures { Framed bytes.now t.now n i j (said result) }
+    ensures { Framed bytes.now numbers.now n i j (said result) }
 {
     if 4 + (n + 3) / 4 < bytes.len() {
-        return Answer::Refused(Refusal::BytesAfter);
+        return Err(Refusal::BytesAfter);
     }
-    if t.len() < 896 {
-        return Answer::Refused(Refusal::WorkShort);
+    if numbers.len() < 896 {
+        return Err(Refusal::WorkShort);
     }
     if j < i {
-        return Answer::Refused(Refusal::OutOfRange);
+        return Err(Refusal::OutOfRange);
     }
     if n <= j {
-        return Answer::Refused(Refusal::OutOfRange);
+        return Err(Refusal::OutOfRange);
     }
-    found(&bytes[4..], t, n, i, j)
+    let lent = Lent {
+        body: Body { bytes: &bytes[4..] },
+        summary: Summary { numbers },
+    };
+    lent.found(n, i, j)
 }
 
 // The leftmost smallest entry from i to j, by the record and its summary: a handful of blocks is read. Where the
 // summary is not the one filled from the record, some place from i to j, or 9.
-pub fn quick_ask(bytes: &[u8], summary: &[u16], i: usize, j: usize) -> Answer
+pub fn quick_ask(bytes: &[u8], summary: &[u16], i: usize, j: usize) -> Result<usize, Refusal>
     ensures { QuickSays bytes.now summary.now i j (said result) }
 {
-    match checks::frame(bytes) {
-        Answer::Is(n) => framed(bytes, summary, n, i, j),
-        Answer::Refused(r) => Answer::Refused(r),
-    }
+    framed(bytes, summary, checks::frame(bytes)?, i, j)
 }

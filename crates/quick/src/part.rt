@@ -1,58 +1,35 @@
 // Parts of a record's body through the table: from a closing on, up to a closing, a whole block. Each stops
 // where it has come as low as the summary says that the block goes.
-ghost use Rattle.std.specs.Prelude.{◌≡◌, ◌+◌, ◌*◌, ◌/◌, ◌≤◌, ◌<◌, length};
-ghost use Rattle.scan.specs.Rows.{rows};
+ghost use Rattle.std.specs.Prelude.{◌≡◌, ◌+◌, ◌*◌, ◌≤◌, ◌<◌, length, get_or};
+ghost use Rattle.rules.specs.Shape.{opening, closing};
+ghost use Rattle.rules.specs.Bytes.{all_bits};
 ghost use Rattle.scan.specs.Scan.{Ready};
-ghost use Rattle.quick.specs.Part.{end_of, ClosingAt, Lent, Near, Runs, FromClosing, GoesOn, EndsIn, Reaches};
+ghost use Rattle.quick.specs.Part.{end_of, ClosingAt, Near, Begun, Runs, FromClosing, GoesOn, EndsIn, Reaches};
 
 use crate::GROUND;
+use ask::byte::Start;
 use blocks::byte::Narrow;
 use scan::Scan;
 
 // Bytes until they end or the smallest is as low as stop.
-fn run(st: Scan, t: &scan::RowTable, part: &[u8], at: usize, stop: usize) -> Scan
-    requires { (t.now ≡ rows) × Ready st (8 * length part.now) × (at + 8 * length part.now ≤ 1048576) }
+fn run(st: Scan, part: &[u8], at: usize, stop: usize) -> Scan
+    requires { Ready st (8 * length part.now) × (at + 8 * length part.now ≤ 1048576) }
     ensures { Runs st at part.now stop result }
 {
     let mut here = st;
-    let mut m = 0;
-    while m < part.len() {
+    for (m, &b) in part.iter().enumerate() {
         if here.smallest <= stop {
             return here;
         }
-        here = here.byte(t, at + 8 * m, part[m]);
-        m += 1;
+        here = here.byte(at + 8 * m, b);
     }
     here
 }
 
-// The byte with which block k ends.
-pub fn end_of(body: &[u8], k: usize) -> usize
-    requires { k ≤ 255 }
-    ensures { result ≡ end_of body.now k }
-{
-    if body.len() < 32 * k + 32 {
-        return body.len();
-    }
-    32 * k + 32
-}
-
-// From the closing at place x, after which the excess is e, to the end of its block k.
-pub fn behind(t: &scan::RowTable, body: &[u8], k: usize, x: usize, e: usize, stop: usize) -> Scan
-    requires { (t.now ≡ rows) × Lent body.now × (k ≤ 255) × ClosingAt body.now k x × Near e }
-    ensures { FromClosing body.now x (8 * end_of body.now k) e stop result }
-{
-    let m = x / 8;
-    let here = ask::byte::behind(t, 8 * m, body[m], (x % 8) as u32, e);
-    let next = m + 1;
-    let end = end_of(body, k);
-    run(here, t, &body[next..end], 8 * next, stop)
-}
-
 // Byte b, whose first bit stands at place at, up to closing number j of the body. Where the excess is no true
 // one, so that the closing is not in this byte, nothing of it.
-fn last(here: Scan, t: &scan::RowTable, at: usize, b: u8, j: usize) -> Scan
-    requires { (t.now ≡ rows) × Ready here 8 × (at ≤ 65536) × (j < 32768) }
+fn last(here: Scan, at: usize, b: u8, j: usize) -> Scan
+    requires { Ready here 8 × (at ≤ 65536) × (j < 32768) }
     ensures { EndsIn here at b j result }
 {
     // Before the byte stand (base - excess) / 2 closings.
@@ -69,72 +46,111 @@ fn last(here: Scan, t: &scan::RowTable, at: usize, b: u8, j: usize) -> Scan
     if blocks::byte::count_eight(n.bits) <= n.k {
         return here;
     }
-    ask::byte::upto(here, t, at, b, blocks::byte::nth(n) as u32 + 1)
+    ask::byte::upto(here, at, b, blocks::byte::nth(n) as u32 + 1)
 }
 
-// From the start of block k, in state st, up to closing number j of the body: it stands in the first byte
-// behind which more than j closings are counted.
-pub fn upto(st: Scan, t: &scan::RowTable, body: &[u8], k: usize, j: usize, stop: usize) -> Scan
-    requires { (t.now ≡ rows) × Lent body.now × (k ≤ 255) × (32 * k ≤ length body.now) × (j < 32768) × Ready st 256 }
-    ensures { Reaches body.now k j st stop result }
-{
-    let end = end_of(body, k);
-    let mut here = st;
-    let mut m = 32 * k;
-    while m < end {
-        if here.smallest <= stop {
-            return here;
+// A closing by its place, and the excess after it: one that a place can have, whatever a summary says.
+#[derive(Clone, Copy)]
+pub struct Closing {
+    pub place: usize,
+    pub excess: usize,
+    pub ghost near: { Near excess },
+}
+
+// A body that a frame has let by.
+#[derive(Clone, Copy)]
+pub struct Body<'a> {
+    pub bytes: &'a [u8],
+    pub ghost few: { length bytes.now ≤ 8192 },
+}
+
+impl<'a> Body<'a> {
+    // The byte with which block k ends.
+    pub fn end_of(self, k: usize) -> usize
+        requires { k ≤ 255 }
+        ensures { result ≡ end_of self.entry.bytes.now k }
+    {
+        self.bytes.len().min(32 * k + 32)
+    }
+
+    // Where a scan begins that begins with this closing.
+    fn start(self, from: Closing) -> Start
+        requires { (from.place < 8 * length self.bytes.now) × (get_or (all_bits self.bytes.now) from.place opening ≡ closing) }
+        ensures { Begun self.entry.bytes.now from.place from.excess result.at result.byte result.bit result.excess }
+    {
+        let m = from.place / 8;
+        Start {
+            at: 8 * m,
+            byte: self.bytes[m],
+            bit: (from.place % 8) as u32,
+            excess: from.excess,
         }
-        let b = body[m];
-        let at = 8 * m;
-        let next = here.byte(t, at, b);
-        if 2 * j + 2 + next.excess <= at + 8 + GROUND {
-            return last(here, t, at, b, j);
+    }
+
+    // From a closing to the end of its block k.
+    pub fn behind(self, k: usize, from: Closing, stop: usize) -> Scan
+        requires { (k ≤ 255) × ClosingAt self.bytes.now k from.place }
+        ensures { FromClosing self.entry.bytes.now from.place (8 * end_of self.entry.bytes.now k) from.excess stop result }
+    {
+        let here = self.start(from).behind();
+        let next = from.place / 8 + 1;
+        let end = self.end_of(k);
+        run(here, &self.bytes[next..end], 8 * next, stop)
+    }
+
+    // From a closing up to the closing at place y of the same block k.
+    pub fn within(self, k: usize, from: Closing, y: usize, stop: usize) -> Scan
+        requires { (k ≤ 255) × ClosingAt self.bytes.now k from.place × ClosingAt self.bytes.now k y × (from.place ≤ y) }
+        ensures { FromClosing self.entry.bytes.now from.place (y + 1) from.excess stop result }
+    {
+        let start = self.start(from);
+        let bits = (y % 8) as u32 + 1;
+        let q = y / 8;
+        if from.place / 8 == q {
+            return start.within(bits);
         }
-        here = next;
-        m += 1;
+        let next = from.place / 8 + 1;
+        let mid = run(start.behind(), &self.bytes[next..q], 8 * next, stop);
+        if mid.smallest <= stop {
+            return mid;
+        }
+        ask::byte::upto(mid, 8 * q, self.bytes[q], bits)
     }
-    here
-}
 
-// From the closing at place x, after which the excess is e, up to the closing at place y of the same block.
-pub fn within(
-    t: &scan::RowTable,
-    body: &[u8],
-    k: usize,
-    x: usize,
-    e: usize,
-    y: usize,
-    stop: usize,
-) -> Scan
-    requires { (t.now ≡ rows) × Lent body.now × (k ≤ 255) × ClosingAt body.now k x × Near e × ClosingAt body.now k y × (x ≤ y) }
-    ensures { FromClosing body.now x (y + 1) e stop result }
-{
-    let m = x / 8;
-    let q = y / 8;
-    if m == q {
-        return ask::byte::within(t, 8 * m, body[m], (x % 8) as u32, e, (y % 8) as u32 + 1);
+    // From the start of block k, in state st, up to closing number j of the body: it stands in the first byte
+    // behind which more than j closings are counted.
+    pub fn upto(self, st: Scan, k: usize, j: usize, stop: usize) -> Scan
+        requires { (k ≤ 255) × (32 * k ≤ length self.bytes.now) × (j < 32768) × Ready st 256 }
+        ensures { Reaches self.entry.bytes.now k j st stop result }
+    {
+        let mut here = st;
+        for m in 32 * k..self.end_of(k) {
+            if here.smallest <= stop {
+                return here;
+            }
+            let b = self.bytes[m];
+            let at = 8 * m;
+            let next = here.byte(at, b);
+            if 2 * j + 2 + next.excess <= at + 8 + GROUND {
+                return last(here, at, b, j);
+            }
+            here = next;
+        }
+        here
     }
-    let here = ask::byte::behind(t, 8 * m, body[m], (x % 8) as u32, e);
-    let next = m + 1;
-    let mid = run(here, t, &body[next..q], 8 * next, stop);
-    if mid.smallest <= stop {
-        return mid;
-    }
-    ask::byte::upto(mid, t, 8 * q, body[q], (y % 8) as u32 + 1)
-}
 
-// All of block k, before which the excess is e.
-pub fn whole(t: &scan::RowTable, body: &[u8], k: usize, e: usize, stop: usize) -> Scan
-    requires { (t.now ≡ rows) × Lent body.now × (k ≤ 255) × (32 * k ≤ length body.now) × Near e }
-    ensures { GoesOn body.now (256 * k) (8 * end_of body.now k) (record { excess = e; smallest = 1048576; place = 0 }) stop result }
-{
-    let start = Scan {
-        excess: e,
-        smallest: 1048576,
-        place: 0,
-    };
-    let from = 32 * k;
-    let end = end_of(body, k);
-    run(start, t, &body[from..end], 256 * k, stop)
+    // All of block k, before which the excess is e.
+    pub fn whole(self, k: usize, e: usize, stop: usize) -> Scan
+        requires { (k ≤ 255) × (32 * k ≤ length self.bytes.now) × Near e }
+        ensures { GoesOn self.entry.bytes.now (256 * k) (8 * end_of self.entry.bytes.now k) (record { excess = e; smallest = 1048576; place = 0 }) stop result }
+    {
+        let start = Scan {
+            excess: e,
+            smallest: 1048576,
+            place: 0,
+        };
+        let from = 32 * k;
+        let end = self.end_of(k);
+        run(start, &self.bytes[from..end], 256 * k, stop)
+    }
 }

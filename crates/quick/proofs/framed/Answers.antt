@@ -1,5 +1,6 @@
 -- `quick::framed` meets its contract: each test is one of the checks behind the frame, in their order.
 -- Assumes nothing.
+use mathlib.Core.Path.{refl}
 use Rattle.answers.specs.Said.{said}
 use Rattle.quick.proofs.Framing.{bytes_after, summary-short, ask-crosses, ask-past, ask-inside}
 use Rattle.quick.proofs.framed.Goals as goal
@@ -7,24 +8,24 @@ use Rattle.quick.proofs.framed.Goals as goal
 pub returns-then-n-bytes : goal.returns-then-n-bytes
 returns-then-n-bytes c =
     let a = c.args in
-    bytes_after a.bytes.now a.t.now a.n a.i a.j c.if-n-bytes.true
+    bytes_after a.bytes.now a.numbers.now a.n a.i a.j c.if-n-bytes.true
 
-pub returns-then-t-lt896 : goal.returns-then-t-lt896
-returns-then-t-lt896 c =
+pub returns-then-numbers-lt896 : goal.returns-then-numbers-lt896
+returns-then-numbers-lt896 c =
     let a = c.args in
-    summary-short a.bytes.now a.t.now a.n a.i a.j c.if-n-bytes.false c.if-t-lt896.true
+    summary-short a.bytes.now a.numbers.now a.n a.i a.j c.if-n-bytes.false c.if-numbers-lt896.true
 
 pub returns-then-j-i : goal.returns-then-j-i
 returns-then-j-i c =
     let a = c.args in
-    ask-crosses a.bytes.now a.t.now a.n a.i a.j c.if-n-bytes.false c.if-t-lt896.false c.if-j-i.true
+    ask-crosses a.bytes.now a.numbers.now a.n a.i a.j c.if-n-bytes.false c.if-numbers-lt896.false c.if-j-i.true
 
 pub returns-then-n-j : goal.returns-then-n-j
 returns-then-n-j c =
     let a = c.args in
-    ask-past a.bytes.now a.t.now a.n a.i a.j c.if-n-bytes.false c.if-t-lt896.false c.if-j-i.false c.if-n-j.true
+    ask-past a.bytes.now a.numbers.now a.n a.i a.j c.if-n-bytes.false c.if-numbers-lt896.false c.if-j-i.false c.if-n-j.true
 
 pub returns : goal.returns
 returns c =
     let a = c.args in
-    ask-inside a.bytes.now a.t.now a.n a.i a.j c.if-n-bytes.false c.if-t-lt896.false (said c.found.result) c.if-j-i.false c.if-n-j.false c.found.ensures
+    ask-inside a.bytes.now a.numbers.now a.n a.i a.j c.if-n-bytes.false c.if-numbers-lt896.false _ (said c.found.result) refl refl c.if-j-i.false c.if-n-j.false c.found.ensures

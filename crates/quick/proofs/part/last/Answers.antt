@@ -2,14 +2,8 @@
 -- Assumes nothing.
 use Prim.Native.Nat.{◌+◌, ◌-◌, ◌*◌, ◌/◌}
 use native.Mathlib.Omega.{arith}
-use Rattle.quick.proofs.Reaching.{place_low, ends_before, ends_behind, ends_there}
+use Rattle.quick.proofs.Reaching.{place_low, ends_there}
 use Rattle.quick.proofs.part.last.Goals as goal
-
-pub returns-then-up-base : goal.returns-then-up-base
-returns-then-up-base c = let a = c.args in ends_before a.here a.at a.b a.j c.if-up-base.true
-
-pub returns-then-count_eight-n : goal.returns-then-count_eight-n
-returns-then-count_eight-n c = let a = c.args in ends_behind a.here a.at a.b a.j (omega arith)
 
 pub overflow_cast-nth : goal.overflow_cast-nth
 overflow_cast-nth c = let a = c.args in omega (arith, place_low a.b ((2 * a.j + a.here.excess - (a.at + 131072)) / 2) (omega arith))
@@ -21,7 +15,7 @@ pub upto-requires : goal.upto-requires
 upto-requires c =
     let a = c.args in
     let low = place_low a.b ((2 * a.j + a.here.excess - (a.at + 131072)) / 2) (omega arith) in
-    (c.requires.0, c.requires.1, omega arith, omega arith, omega arith)
+    (c.requires.0, omega arith, omega arith, omega arith)
 
 pub returns : goal.returns
 returns c = let a = c.args in ends_there a.here a.at a.b a.j c.nth.result c.upto.result (omega arith) c.upto.ensures

@@ -1,0 +1,9 @@
+-- `quick::part::Body::start` meets its contract: the closing's bit closes, and its byte is in the body.
+-- Assumes nothing.
+use Rattle.quick.proofs.Closings.{begins}
+use Rattle.quick.proofs.part.Body.start.Goals as goal
+
+pub invariant_of-result : goal.invariant_of-result
+invariant_of-result c =
+    let a = c.args in
+    record { begins = begins a.self.bytes.now a.self.few a.from.place a.from.excess c.requires.0 c.requires.1 a.from.near }

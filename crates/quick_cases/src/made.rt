@@ -1,34 +1,51 @@
 // Records and summaries as the library makes them.
+ghost use Rattle.std.specs.Prelude.{◌<◌};
+
 use restated::columns::Kind;
-use restated::{columns, compare, part, random};
+use restated::{part, plain, random};
 
-// The column's record at the start of the output. It gives the record's length, or 0.
-pub fn record(column: &[u32], out: &mut [u8]) -> usize {
+// The column's record, at the start of the output.
+pub fn record<'a>(column: &[u32], out: &'a mut [u8]) -> &'a [u8] {
     let mut work = [7u16; 32768];
-    compare::value(build::build(column, &mut work, out), 0)
-}
-
-// The record of a column of this kind, at most 2,048 entries.
-pub fn of(kind: Kind, n: usize, seed: u64) -> [u8; 516] {
-    let mut column = [0u32; 2048];
-    let mut out = [0u8; 516];
-    let some = part::counts_mut(&mut column, n);
-    columns::fill(some, kind, seed);
-    record(some, &mut out);
-    out
-}
-
-// The length of a record of n entries.
-pub fn size(n: usize) -> usize {
-    4 + (n % 65536 + 3) / 4
-}
-
-// How many blocks of 256 parentheses a record of n entries has.
-pub fn blocks(n: usize) -> usize {
-    (2 * (n % 65536) + 255) / 256
+    let said = build::build(column, &mut work, out);
+    part::first(out, said.unwrap_or(0))
 }
 
 // A length from 1 to `most`.
-pub fn length(k: u64, most: usize) -> usize {
+pub fn length(k: u32, most: usize) -> usize {
     1 + random::place(random::far(k), most)
+}
+
+// A record of at most 2,048 entries, and a summary to ask it with.
+#[derive(Clone, Copy)]
+pub struct Pair {
+    pub record: [u8; 516],
+    pub summary: [u16; 896],
+}
+
+impl Pair {
+    // The record of a column of this kind, and its own summary.
+    pub fn of(kind: Kind, n: usize, seed: u32) -> Pair {
+        let mut entries = [0u32; 2048];
+        let column = part::first_mut(&mut entries, n);
+        kind.fill(column, seed);
+        let mut pair = Pair {
+            record: [0; 516],
+            summary: [7; 896],
+        };
+        let bytes = record(column, &mut pair.record);
+        summary::fill(bytes, &mut pair.summary);
+        pair
+    }
+
+    // The record's entries.
+    pub fn entries(&self) -> usize
+        ensures { result < 65536 }
+    {
+        plain::entries(&self.record)
+    }
+
+    pub fn bytes(&self) -> &[u8] {
+        part::first(&self.record, plain::size(self.entries()))
+    }
 }

@@ -6,7 +6,6 @@
 mod foreign;
 mod made;
 mod own;
-mod print;
 mod refused;
 mod rows;
 

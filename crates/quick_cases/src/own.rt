@@ -1,130 +1,96 @@
 // Columns and their own summaries: build's length, fill's answer and all 896 numbers, and quick asks against the
 // column's own leftmost smallest place.
-use crate::{made, print};
+use crate::made;
 use restated::columns::Kind;
 use restated::random::Stretch;
 use restated::tally::Tally;
-use restated::{columns, compare, part, plain, random};
-use shown::Line;
+use restated::{part, plain, random};
 use std::io;
 
-#[derive(Clone, Copy)]
+#[derive(Clone, Copy, Default)]
 struct Run {
     fills: Tally,
     asks: Tally,
 }
 
-fn ask(tally: Tally, column: &[u32], bytes: &[u8], summary: &[u16], s: Stretch) -> Tally {
-    let a = quick::quick_ask(bytes, summary, s.i, s.j);
-    tally.of(compare::is(a, plain::least(column, s.i, s.j)))
-}
-
-// So many stretches.
-fn asks(
-    tally: Tally,
-    column: &[u32],
-    bytes: &[u8],
-    summary: &[u16],
-    seed: u64,
-    count: u64,
-) -> Tally {
-    let mut t = tally;
-    let mut x = seed;
-    for _ in 0..count {
-        x = random::next(x);
-        t = ask(t, column, bytes, summary, Stretch::of(x, column.len()));
-    }
-    t
-}
-
-// A column and its record. The summary is lent longer than it is, full of 7, so that the rest is compared too.
-fn column(run: Run, column: &[u32], bytes: &[u8], seed: u64, count: u64) -> Run {
-    let n = column.len();
-    let mut summary = [7u16; 900];
-    let mut like = [7u16; 900];
-    restated::summary::fill(bytes, &mut like);
-    let filled = compare::is(summary::fill(bytes, &mut summary), n);
-    let fills = run.fills;
-    let tally = run.asks;
-    Run {
-        fills: fills
-            .of(bytes.len() == made::size(n))
-            .of(filled)
-            .of(compare::numbers(&summary, &like)),
-        asks: asks(tally, column, bytes, &summary, seed, count),
+impl Run {
+    // A column and its record, with so many stretches asked. The summary is lent longer than it is, full of 7, so
+    // that the rest is compared too.
+    fn column(&mut self, column: &[u32], bytes: &[u8], seed: u32, asks: u32) {
+        let n = column.len();
+        let mut summary = [7u16; 900];
+        let mut like = [7u16; 900];
+        like[..896].copy_from_slice(&restated::summary::of(bytes));
+        let filled = summary::fill(bytes, &mut summary);
+        self.fills.count(bytes.len() == plain::size(n));
+        self.fills.count(filled == Ok(n));
+        self.fills.count(summary == like);
+        let mut x = seed;
+        for _ in 0..asks {
+            x = random::next(x);
+            let Stretch { i, j } = Stretch::of(x, n);
+            let said = quick::quick_ask(bytes, &summary, i, j);
+            self.asks.count(said.ok() == plain::least(column, i, j));
+        }
     }
 }
 
-// A column of up to 2,048 entries.
-fn one(run: Run, kind: Kind, k: u64) -> Run {
-    let mut entries = [0u32; 2048];
-    let mut out = [0xEEu8; 520];
-    let some = part::counts_mut(&mut entries, made::length(k, 2048));
-    columns::fill(some, kind, k);
-    let size = made::record(some, &mut out);
-    column(run, some, part::bytes(&out, size), k, 40)
-}
-
-fn show(rt: &impl Print, line: Line, run: Run) -> io::Result<()> {
-    print::show(rt, line.tally(run.fills))?;
-    print::show(rt, Line::new().text(b"  their quick asks").tally(run.asks))
-}
-
-fn none() -> Run {
-    Run {
-        fills: Tally::new(),
-        asks: Tally::new(),
-    }
-}
-
-fn many(rt: &impl Print, name: &[u8], kind: Kind, count: u64) -> io::Result<()> {
-    let mut run = none();
+// So many columns of up to 2,048 entries.
+fn many(rt: &impl Print, name: &str, kind: Kind, count: u32) -> io::Result<()> {
+    let mut run = Run::default();
     for k in 0..count {
-        run = one(run, kind, k);
+        let mut entries = [0u32; 2048];
+        let mut out = [0xEEu8; 520];
+        let column = part::first_mut(&mut entries, made::length(k, 2048));
+        kind.fill(column, k);
+        run.column(column, made::record(column, &mut out), k, 40);
     }
-    show(
-        rt,
-        Line::new()
-            .text(name)
-            .form(b", # columns", &[count as usize]),
-        run,
-    )
+    println!(rt; "{name}, {count} columns; {}", run.fills)?;
+    println!(rt; "  their quick asks; {}", run.asks)
 }
 
 pub fn columns(rt: &impl Print) -> io::Result<()> {
-    many(rt, b"random below 2", Kind::Random(2), 500)?;
-    many(rt, b"random below 3", Kind::Random(3), 500)?;
-    many(rt, b"random below 16", Kind::Random(16), 500)?;
-    many(
-        rt,
-        b"random below 4294967296",
-        Kind::Random(4294967296),
-        500,
-    )?;
-    many(rt, b"equal", Kind::Random(1), 100)?;
-    many(rt, b"falling", Kind::Falling, 100)?;
-    many(rt, b"0, then falling", Kind::Worst, 100)?;
-    many(rt, b"falling with noise", Kind::Noisy, 200)?;
-    many(rt, b"saw of 7", Kind::Saw(7), 100)?;
-    many(rt, b"saw of 300", Kind::Saw(300), 100)
+    let rows = [
+        ("random below 2", Kind::Random(2), 500),
+        ("random below 3", Kind::Random(3), 500),
+        ("random below 16", Kind::Random(16), 500),
+        ("random below 4294967296", Kind::Random(4294967296), 500),
+        ("equal", Kind::Random(1), 100),
+        ("falling", Kind::Falling, 100),
+        ("0, then falling", Kind::Worst, 100),
+        ("falling with noise", Kind::Noisy, 200),
+        ("saw of 7", Kind::Saw(7), 100),
+        ("saw of 300", Kind::Saw(300), 100),
+    ];
+    for (name, kind, count) in rows {
+        many(rt, name, kind, count)?;
+    }
+    Ok(())
 }
 
 // The longest column.
-fn longest(rt: &impl Print, name: &[u8], kind: Kind) -> io::Result<()> {
-    let mut entries = [0u32; 32768];
+fn longest(rt: &impl Print, name: &str, kind: Kind) -> io::Result<()> {
+    let mut run = Run::default();
+    let mut column = [0u32; 32768];
     let mut out = [0xEEu8; 8200];
-    columns::fill(&mut entries, kind, 1);
-    let size = made::record(&entries, &mut out);
-    let run = column(none(), &entries, part::bytes(&out, size), 2, 1000);
-    show(rt, Line::new().text(b"32768 entries, ").text(name), run)
+    kind.fill(&mut column, 1);
+    run.column(&column, made::record(&column, &mut out), 2, 1000);
+    println!(rt; "32768 entries, {name}; {}", run.fills)?;
+    println!(rt; "  their quick asks; {}", run.asks)
 }
 
 pub fn long(rt: &impl Print) -> io::Result<()> {
-    longest(rt, b"random below 2", Kind::Random(2))?;
-    longest(rt, b"random below 4294967296", Kind::Random(4294967296))?;
-    longest(rt, b"equal", Kind::Random(1))?;
-    longest(rt, b"falling", Kind::Falling)?;
-    longest(rt, b"0, then falling", Kind::Worst)?;
-    longest(rt, b"falling with noise", Kind::Noisy)?;
-    longest(rt, b"saw of 300", Kind::Saw(300))
+    let rows = [
+        ("random below 2", Kind::Random(2)),
+        ("random below 4294967296", Kind::Random(4294967296)),
+        ("equal", Kind::Random(1)),
+        ("falling", Kind::Falling),
+        ("0, then falling", Kind::Worst),
+        ("falling with noise", Kind::Noisy),
+        ("saw of 300", Kind::Saw(300)),
+    ];
+    for (name, kind) in rows {
+        longest(rt, name, kind)?;
+    }
+    Ok(())
 }

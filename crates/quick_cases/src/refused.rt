@@ -1,126 +1,123 @@
 // Every refusal of quick ask and fill, and which comes first of each two that can compete in one call.
-use crate::print;
-use answers::Answer;
+use restated::part;
 use restated::tally::Tally;
-use restated::{compare, part, plain};
-use shown::Line;
+use shown::{Hexes, Said};
 use std::io;
 
-// Mark, n and body in six bytes, how many of these are meant, the summary's length, i and j.
-fn ask(rt: &impl Print, row: [usize; 7]) -> io::Result<()> {
+// With the first `numbers` numbers of a summary of 65,535s.
+fn ask(rt: &impl Print, bytes: &[u8], numbers: usize, i: usize, j: usize) -> io::Result<()> {
     let summary = [65535u16; 900];
-    let six = plain::six(row[0], row[1], row[2]);
-    let bytes = part::bytes(&six, row[3]);
-    let a = quick::quick_ask(bytes, part::numbers(&summary, row[4]), row[5], row[6]);
-    let line = Line::new().text(b"quick ask").hexes(bytes);
-    let asked = line.form(b" with #, #..#:", &[row[4], row[5], row[6]]);
-    print::show(rt, asked.answer(a).text(b"\n"))
+    let said = quick::quick_ask(bytes, part::first(&summary, numbers), i, j);
+    println!(
+        rt;
+        "quick ask{} with {numbers}, {i}..{j}:{}",
+        Hexes(bytes),
+        Said(said)
+    )
 }
 
 pub fn asks(rt: &impl Print) -> io::Result<()> {
-    let rows: [[usize; 7]; 35] = [
+    // a record's bytes, the summary's length, i and j
+    let rows: [(&[u8], usize, usize, usize); 35] = [
         // 5 for fewer than 4 bytes; before 4, 3, 8
-        [0x524D, 1, 1, 0, 896, 0, 0],
-        [0x524D, 1, 1, 3, 896, 0, 0],
-        [0x524E, 1, 1, 3, 896, 0, 0],
-        [0x524D, 1, 1, 3, 895, 0, 0],
-        [0x524D, 1, 1, 3, 896, 1, 0],
+        (&[], 896, 0, 0),
+        (&[0x52, 0x4D, 1], 896, 0, 0),
+        (&[0x52, 0x4E, 1], 896, 0, 0),
+        (&[0x52, 0x4D, 1], 895, 0, 0),
+        (&[0x52, 0x4D, 1], 896, 1, 0),
         // 4, in each byte of the mark; before 1, 5, 11, 3, 8
-        [0x524E, 1, 1, 5, 896, 0, 0],
-        [0x514D, 1, 1, 5, 896, 0, 0],
-        [0x514D, 32769, 0, 4, 896, 0, 0],
-        [0x514D, 1, 1, 4, 896, 0, 0],
-        [0x514D, 1, 1, 6, 896, 0, 0],
-        [0x514D, 1, 1, 5, 895, 0, 0],
-        [0x514D, 1, 1, 5, 896, 1, 0],
+        (&[0x52, 0x4E, 1, 0, 1], 896, 0, 0),
+        (&[0x51, 0x4D, 1, 0, 1], 896, 0, 0),
+        (&[0x51, 0x4D, 1, 0x80], 896, 0, 0),
+        (&[0x51, 0x4D, 1, 0], 896, 0, 0),
+        (&[0x51, 0x4D, 1, 0, 1, 0], 896, 0, 0),
+        (&[0x51, 0x4D, 1, 0, 1], 895, 0, 0),
+        (&[0x51, 0x4D, 1, 0, 1], 896, 1, 0),
         // 1, before 5; before 3, 8
-        [0x524D, 32769, 0, 4, 896, 0, 0],
-        [0x524D, 32769, 0, 4, 895, 0, 0],
-        [0x524D, 32769, 0, 4, 896, 1, 0],
+        (&[0x52, 0x4D, 1, 0x80], 896, 0, 0),
+        (&[0x52, 0x4D, 1, 0x80], 895, 0, 0),
+        (&[0x52, 0x4D, 1, 0x80], 896, 1, 0),
         // 5 for the rest; before 3, 8
-        [0x524D, 32768, 0, 4, 896, 0, 0],
-        [0x524D, 5, 0x133, 5, 896, 0, 0],
-        [0x524D, 5, 0x133, 5, 895, 0, 0],
-        [0x524D, 5, 0x133, 5, 896, 1, 0],
+        (&[0x52, 0x4D, 0, 0x80], 896, 0, 0),
+        (&[0x52, 0x4D, 5, 0, 0x33], 896, 0, 0),
+        (&[0x52, 0x4D, 5, 0, 0x33], 895, 0, 0),
+        (&[0x52, 0x4D, 5, 0, 0x33], 896, 1, 0),
         // 11; before 3, 8
-        [0x524D, 0, 0, 5, 896, 0, 0],
-        [0x524D, 1, 1, 6, 896, 0, 0],
-        [0x524D, 1, 1, 6, 895, 0, 0],
-        [0x524D, 1, 1, 6, 896, 1, 0],
+        (&[0x52, 0x4D, 0, 0, 0], 896, 0, 0),
+        (&[0x52, 0x4D, 1, 0, 1, 0], 896, 0, 0),
+        (&[0x52, 0x4D, 1, 0, 1, 0], 895, 0, 0),
+        (&[0x52, 0x4D, 1, 0, 1, 0], 896, 1, 0),
         // 3; before 8
-        [0x524D, 1, 1, 5, 895, 0, 0],
-        [0x524D, 1, 1, 5, 0, 0, 0],
-        [0x524D, 1, 1, 5, 895, 1, 0],
+        (&[0x52, 0x4D, 1, 0, 1], 895, 0, 0),
+        (&[0x52, 0x4D, 1, 0, 1], 0, 0, 0),
+        (&[0x52, 0x4D, 1, 0, 1], 895, 1, 0),
         // 8: i > j; j = n; both; far outside; no entries
-        [0x524D, 1, 1, 5, 896, 1, 0],
-        [0x524D, 1, 1, 5, 896, 0, 1],
-        [0x524D, 1, 1, 5, 900, 2, 1],
-        [0x524D, 1, 1, 5, 896, 0, 18446744073709551615],
-        [0x524D, 0, 0, 4, 896, 0, 0],
+        (&[0x52, 0x4D, 1, 0, 1], 896, 1, 0),
+        (&[0x52, 0x4D, 1, 0, 1], 896, 0, 1),
+        (&[0x52, 0x4D, 1, 0, 1], 900, 2, 1),
+        (&[0x52, 0x4D, 1, 0, 1], 896, 0, usize::MAX),
+        (&[0x52, 0x4D, 0, 0], 896, 0, 0),
         // an unused bit and bits out of balance are not judged: 3, and 8
-        [0x524D, 1, 5, 5, 895, 0, 0],
-        [0x524D, 1, 5, 5, 896, 1, 0],
-        [0x524D, 1, 2, 5, 895, 0, 0],
-        [0x524D, 1, 2, 5, 896, 1, 0],
+        (&[0x52, 0x4D, 1, 0, 5], 895, 0, 0),
+        (&[0x52, 0x4D, 1, 0, 5], 896, 1, 0),
+        (&[0x52, 0x4D, 1, 0, 2], 895, 0, 0),
+        (&[0x52, 0x4D, 1, 0, 2], 896, 1, 0),
     ];
-    for k in 0..35 {
-        ask(rt, rows[k])?;
+    for (bytes, numbers, i, j) in rows {
+        ask(rt, bytes, numbers, i, j)?;
     }
     Ok(())
 }
 
-// What 900 numbers of 7 should hold afterwards: where fill is refused all are unchanged, else the first 896 alone are
-// new.
-fn after(bytes: &[u8], a: Answer) -> [u16; 900] {
-    let mut like = [7u16; 900];
-    if compare::refusal(a) == 0 {
-        restated::summary::fill(bytes, &mut like);
-    }
-    like
-}
-
-// Mark, n, body, how many of the six bytes, how many of the 900 numbers.
-fn fill(rt: &impl Print, row: [usize; 5]) -> io::Result<()> {
+// Into the first `numbers` of 900 numbers of 7. Where fill is refused all are unchanged, else the first 896 alone
+// are new.
+fn fill(rt: &impl Print, bytes: &[u8], numbers: usize) -> io::Result<()> {
     let mut summary = [7u16; 900];
-    let six = plain::six(row[0], row[1], row[2]);
-    let bytes = part::bytes(&six, row[3]);
-    let a = summary::fill(bytes, part::numbers_mut(&mut summary, row[4]));
-    let t = Tally::new().of(compare::numbers(&summary, &after(bytes, a)));
-    let line = Line::new().text(b"fill").hexes(bytes);
-    print::show(rt, line.form(b" into #:", &[row[4]]).answer(a).tally(t))
+    let mut like = [7u16; 900];
+    let said = summary::fill(bytes, part::first_mut(&mut summary, numbers));
+    if said.is_ok() {
+        like[..896].copy_from_slice(&restated::summary::of(bytes));
+    }
+    let mut tally = Tally::default();
+    tally.count(summary == like);
+    println!(
+        rt;
+        "fill{} into {numbers}:{}; {tally}",
+        Hexes(bytes),
+        Said(said)
+    )
 }
 
 pub fn fills(rt: &impl Print) -> io::Result<()> {
-    let rows: [[usize; 5]; 22] = [
-        // 5, 4, 1, 5, 11, 6, 7, each before 3
-        [0x524D, 1, 1, 3, 895],
-        [0x524E, 1, 1, 5, 895],
-        [0x524D, 32769, 0, 4, 895],
-        [0x524D, 5, 0x133, 5, 895],
-        [0x524D, 1, 1, 6, 895],
-        [0x524D, 1, 5, 5, 895],
-        [0x524D, 1, 2, 5, 895],
-        // the same alone
-        [0x524D, 1, 1, 3, 900],
-        [0x524E, 1, 1, 5, 900],
-        [0x524D, 32769, 0, 4, 900],
-        [0x524D, 5, 0x133, 5, 900],
-        [0x524D, 1, 1, 6, 900],
-        [0x524D, 1, 5, 5, 900],
-        [0x524D, 1, 2, 5, 900],
-        // 3
-        [0x524D, 1, 1, 5, 895],
-        [0x524D, 1, 1, 5, 0],
-        [0x524D, 0, 0, 4, 895],
-        // none; and a longer slice keeps the rest
-        [0x524D, 1, 1, 5, 896],
-        [0x524D, 1, 1, 5, 900],
-        [0x524D, 0, 0, 4, 896],
-        [0x524D, 0, 0, 4, 900],
-        [0x524D, 5, 0x133, 6, 897],
+    // 5, 4, 1, 5, 11, 6, 7, each before 3; the same alone
+    let refused: [&[u8]; 7] = [
+        &[0x52, 0x4D, 1],
+        &[0x52, 0x4E, 1, 0, 1],
+        &[0x52, 0x4D, 1, 0x80],
+        &[0x52, 0x4D, 5, 0, 0x33],
+        &[0x52, 0x4D, 1, 0, 1, 0],
+        &[0x52, 0x4D, 1, 0, 5],
+        &[0x52, 0x4D, 1, 0, 2],
     ];
-    for k in 0..22 {
-        fill(rt, rows[k])?;
+    for numbers in [895, 900] {
+        for bytes in refused {
+            fill(rt, bytes, numbers)?;
+        }
+    }
+    let rows: [(&[u8], usize); 8] = [
+        // 3
+        (&[0x52, 0x4D, 1, 0, 1], 895),
+        (&[0x52, 0x4D, 1, 0, 1], 0),
+        (&[0x52, 0x4D, 0, 0], 895),
+        // none; and a longer slice keeps the rest
+        (&[0x52, 0x4D, 1, 0, 1], 896),
+        (&[0x52, 0x4D, 1, 0, 1], 900),
+        (&[0x52, 0x4D, 0, 0], 896),
+        (&[0x52, 0x4D, 0, 0], 900),
+        (&[0x52, 0x4D, 5, 0, 0x33, 1], 897),
+    ];
+    for (bytes, numbers) in rows {
+        fill(rt, bytes, numbers)?;
     }
     Ok(())
 }

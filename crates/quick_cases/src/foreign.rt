@@ -1,8 +1,6 @@
 // Damaged records with the summary of the undamaged one, and foreign summaries: each outcome is a place from i to j,
 // or 9, and 9 wherever one of the two slots names a block that the record has not got. Where the record passes its
 // check and the summary is its own after all, the answer is the plain ask's.
-ghost use Rattle.std.specs.Prelude.{IsAlwaysCallable};
-
 use crate::made::{self, Pair};
 use answers::Refusal;
 use restated::columns::Kind;
@@ -74,13 +72,13 @@ fn damaged(pair: &mut Pair, k: u32) {
 fn scattered(pair: &mut Pair, k: u32) {
     let n = pair.entries() as u64;
     let values = [65536, n / 128 + 2, n + 1, 2 * n];
-    random::numbers(&mut pair.summary, k, values[(k % 4) as usize]);
+    random::fill(&mut pair.summary, k, values[(k % 4) as usize]);
 }
 
 // The summary of another record.
 fn another(pair: &mut Pair, k: u32) {
-    let other = own(k.wrapping_add(1));
-    pair.summary = other.summary;
+    let Pair { summary, .. } = own(k.wrapping_add(1));
+    pair.summary = summary;
 }
 
 // One number of the summary changed: a block's end, a node, a leaf, or a closing's block; to one near the edges of
@@ -107,8 +105,8 @@ fn changed(pair: &mut Pair, k: u32) {
     }
 }
 
-fn many(rt: &impl Print, name: &str, change: impl Fn(&mut Pair, u32)) -> io::Result<()>
-    requires { IsAlwaysCallable change.now }
+fn many<F: Fn(&mut Pair, u32)>(rt: &impl Print, name: &str, change: F) -> io::Result<()>
+    requires { F.IsAlwaysCallable change }
 {
     let mut outcomes = Outcomes::default();
     for k in 0..1200 {

@@ -34,7 +34,7 @@ impl Pair {
             summary: [7; 896],
         };
         let bytes = record(column, &mut pair.record);
-        summary::fill(bytes, &mut pair.summary);
+        let _ = summary::fill(bytes, &mut pair.summary);
         pair
     }
 

@@ -8,8 +8,7 @@ use std::io;
 fn ask(rt: &impl Print, bytes: &[u8], numbers: usize, i: usize, j: usize) -> io::Result<()> {
     let summary = [65535u16; 900];
     let said = quick::quick_ask(bytes, part::first(&summary, numbers), i, j);
-    println!(
-        rt;
+    println!(rt;
         "quick ask{} with {numbers}, {i}..{j}:{}",
         Hexes(bytes),
         Said(said)
@@ -80,8 +79,7 @@ fn fill(rt: &impl Print, bytes: &[u8], numbers: usize) -> io::Result<()> {
     }
     let mut tally = Tally::default();
     tally.count(summary == like);
-    println!(
-        rt;
+    println!(rt;
         "fill{} into {numbers}:{}; {tally}",
         Hexes(bytes),
         Said(said)

@@ -6,7 +6,7 @@ use std::{fmt, io};
 
 // Ten slots of a summary: block ends, the tree's first two, leaves, closings.
 #[derive(Clone, Copy)]
-struct Slots<'a>(&'a [u16; 896]);
+struct Slots<'a>(&'a [u16]);
 
 impl fmt::Display for Slots<'_> {
     fn fmt<W: fmt::Write>(&self, f: &mut fmt::Formatter<W>) -> fmt::Result {

@@ -27,20 +27,17 @@ pub fn place(x: u32, values: usize) -> usize
     (below(x, values as u64) % 65536) as usize
 }
 
-pub fn bytes(bytes: &mut [u8], seed: u32) {
-    let mut x = seed;
-    for byte in bytes {
-        x = next(x);
-        *byte = (x >> 24) as u8;
-    }
-}
-
-// Numbers below `values`.
-pub fn numbers(numbers: &mut [u16], seed: u32, values: u64) {
+// Numbers below `values`, which the type has.
+pub fn fill<T: Copy + TryFrom<u32>>(numbers: &mut [T], seed: u32, values: u64)
+where
+    T::Error: Drop,
+{
     let mut x = seed;
     for number in numbers {
         x = next(x);
-        *number = (below(x, values) % 65536) as u16;
+        if let Ok(fitting) = T::try_from(below(x, values)) {
+            *number = fitting;
+        }
     }
 }
 

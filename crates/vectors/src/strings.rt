@@ -8,7 +8,7 @@ pub fn all(rt: &impl Print) -> io::Result<()> {
     for k in 0..50000 {
         let n = k % 33;
         let mut bytes = [0u8; 14];
-        random::bytes(&mut bytes, k);
+        random::fill(&mut bytes, k, 256);
         bytes[..4].copy_from_slice(&plain::head(n as u16));
         let size = 3 + n.div_ceil(4) + k / 33 % 3;
         judge.string(part::first(&bytes, size as usize));

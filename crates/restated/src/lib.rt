@@ -6,7 +6,6 @@ pub mod columns;
 pub mod part;
 pub mod plain;
 pub mod random;
-pub mod rows;
 pub mod summary;
 pub mod sums;
 pub mod tally;

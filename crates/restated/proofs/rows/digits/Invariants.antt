@@ -1,6 +1,0 @@
--- `rows::digits` is safe and ends: k grows up to the length. Assumes nothing.
-use Rattle.std.proofs.Common.{◌-◌, length}
-use Rattle.restated.proofs.rows.digits.Given as goal
-
-abbrev pub decreases-loop-k : goal.decreases-loop-k
-decreases-loop-k l = length l.word - l.k

@@ -5,8 +5,7 @@ use Rattle.rules.specs.Bytes.{parens}
 use Rattle.rules.specs.Refusal.{answer, refusal}
 use Rattle.rules.specs.Order.{ask_says}
 use Rattle.rules.specs.Window.{window_says, through_says}
-use Rattle.answers.specs.Said.{Answer}
-use Rattle.answers.specs.Said.{said}
+use Rattle.answers.specs.Said.{Answer, said}
 use Rattle.window.specs.declared.Window.{Window}
 use Rattle.window.specs.Made.{Made, in_window}
 

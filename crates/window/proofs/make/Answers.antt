@@ -1,14 +1,14 @@
--- `window::make` meets its contract: what it keeps is what the verdict leaves of the bytes and of the two numbers. Assumes nothing.
-use mathlib.Core.Path.{ap, ◌∙◌}
-use Rattle.rules.specs.Refusal.{Outcome}
-use Rattle.rules.specs.Window.{bytes_by, number_by, kept_bytes, kept_first, kept_last}
+-- `window::make` meets its contract: all is kept, or nothing where the window is refused. Assumes nothing.
+use mathlib.Core.Path.{sym}
+use Rattle.rules.proofs.Window.{stands_keeps, refused_keeps}
 use Rattle.window.proofs.make.Goals as goal
 
-pub returns : goal.returns
-unfolding kept_bytes kept_first kept_last
-returns c =
-    record {
-      bytes = ap (λ b. b.now) c.wrap.ensures.0 ∙ (c.kept_bytes.ensures ∙ ap (λ (o : Outcome). bytes_by o c.args.bytes.now) c.refusal_of-verdict.ensures);
-      first = c.wrap.ensures.1 ∙ (c.kept_number.ensures ∙ ap (λ (o : Outcome). number_by o c.args.first) c.refusal_of-verdict.ensures);
-      last = c.wrap.ensures.2 ∙ (c.kept_number-2.ensures ∙ ap (λ (o : Outcome). number_by o c.args.last) c.refusal_of-verdict.ensures);
-    }
+pub returns-in-Ok : goal.returns-in-Ok
+returns-in-Ok c =
+    let (b, f, l) = stands_keeps c.args.bytes.now c.args.first c.args.last (sym c.in-Ok.ensures) in
+    record { bytes = sym b; first = sym f; last = sym l }
+
+pub returns-in-Err : goal.returns-in-Err
+returns-in-Err c =
+    let (b, f, l) = refused_keeps c.args.bytes.now c.args.first c.args.last (sym c.in-Err.ensures) in
+    record { bytes = sym b; first = sym f; last = sym l }

@@ -70,11 +70,8 @@ pub fn ask(bytes: &[u8], i: usize, j: usize) -> Result<usize, Refusal>
     ensures { said result ≡ ask_says bytes.now i j }
 {
     let checked = Record::of(bytes)?;
-    if j < i {
+    if j < i || checked.entries <= j {
         return Err(Refusal::OutOfRange);
     }
-    if j < checked.entries {
-        return Ok(between(checked, i, j));
-    }
-    Err(Refusal::OutOfRange)
+    Ok(between(checked, i, j))
 }

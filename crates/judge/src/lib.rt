@@ -16,6 +16,11 @@ pub struct Judge {
 }
 
 impl Judge {
+    // One comparison more.
+    pub fn count(&mut self, holds: bool) {
+        self.tally.count(holds);
+    }
+
     // A record that passes the check: what the check says; the stand-in, which is all that changes in the column;
     // the record of that column, which is the record again; and an ask past the last entry. The lent buffers have
     // room for more than these.
@@ -27,15 +32,14 @@ impl Judge {
         let mut work = [7u16; ENTRIES];
         let mut out = [0xEEu8; BYTES];
         let n = plain::entries(bytes);
-        self.tally.count(checks::check(bytes) == Ok(n));
+        self.count(checks::check(bytes) == Ok(n));
         plain::stand_in(bytes, &mut like);
         let stood = stand_in::stand_in(bytes, &mut column);
-        self.tally.count(stood == Ok(n) && column == like);
+        self.count(stood == Ok(n) && column == like);
         let built = build::build(part::first(&column, n), &mut work, &mut out);
         let again = part::first(&out, bytes.len()) == bytes;
-        self.tally.count(built == Ok(bytes.len()) && again);
-        self.tally
-            .count(ask::ask(bytes, 0, n) == Err(Refusal::OutOfRange));
+        self.count(built == Ok(bytes.len()) && again);
+        self.count(ask::ask(bytes, 0, n) == Err(Refusal::OutOfRange));
     }
 
     // Asks on a column's record, against the column's own leftmost smallest places. Between two places where asks
@@ -45,7 +49,7 @@ impl Judge {
         for i in (0..column.len()).step_by(step) {
             for j in (i..column.len()).step_by(step) {
                 let place = plain::least(column, i, j);
-                self.tally.count(ask::ask(bytes, i, j).ok() == place);
+                self.count(ask::ask(bytes, i, j).ok() == place);
             }
         }
     }
@@ -54,19 +58,18 @@ impl Judge {
     // changes.
     fn refused(&mut self, bytes: &[u8], refusal: Refusal) {
         let mut column = [8u32; 3];
-        self.tally.count(checks::check(bytes) == Err(refusal));
-        self.tally.count(ask::ask(bytes, 1, 0) == Err(refusal));
+        self.count(checks::check(bytes) == Err(refusal));
+        self.count(ask::ask(bytes, 1, 0) == Err(refusal));
         let stood = stand_in::stand_in(bytes, &mut column);
-        self.tally.count(stood == Err(refusal));
-        self.tally.count(column == [8; 3]);
+        self.count(stood == Err(refusal));
+        self.count(column == [8; 3]);
     }
 
     // Any bytes, of at most 200 entries where they are a record.
     pub fn string(&mut self, bytes: &[u8]) {
         let said = plain::check(bytes);
         self.seen.see(&said);
-        self.tally
-            .count(checks::frame(bytes) == plain::frame(bytes));
+        self.count(checks::frame(bytes) == plain::frame(bytes));
         match said {
             Ok(_) => self.record::<202, 56>(bytes),
             Err(refusal) => self.refused(bytes, refusal),

@@ -5,7 +5,7 @@ use restated::columns::Kind;
 use restated::random::Stretch;
 use restated::tally::Tally;
 use restated::{part, plain, random};
-use std::io;
+use std::{fmt, io};
 
 #[derive(Clone, Copy, Default)]
 struct Run {
@@ -35,6 +35,13 @@ impl Run {
     }
 }
 
+impl fmt::Display for Run {
+    fn fmt<W: fmt::Write>(&self, f: &mut fmt::Formatter<W>) -> fmt::Result {
+        let Run { fills, asks } = self;
+        write!(f, "{fills}\n  their quick asks; {asks}")
+    }
+}
+
 // So many columns of up to 2,048 entries.
 fn many(rt: &impl Print, name: &str, kind: Kind, count: u32) -> io::Result<()> {
     let mut run = Run::default();
@@ -45,8 +52,7 @@ fn many(rt: &impl Print, name: &str, kind: Kind, count: u32) -> io::Result<()> {
         kind.fill(column, k);
         run.column(column, made::record(column, &mut out), k, 40);
     }
-    println!(rt; "{name}, {count} columns; {}", run.fills)?;
-    println!(rt; "  their quick asks; {}", run.asks)
+    println!(rt; "{name}, {count} columns; {run}")
 }
 
 pub fn columns(rt: &impl Print) -> io::Result<()> {
@@ -75,8 +81,7 @@ fn longest(rt: &impl Print, name: &str, kind: Kind) -> io::Result<()> {
     let mut out = [0xEEu8; 8200];
     kind.fill(&mut column, 1);
     run.column(&column, made::record(&column, &mut out), 2, 1000);
-    println!(rt; "32768 entries, {name}; {}", run.fills)?;
-    println!(rt; "  their quick asks; {}", run.asks)
+    println!(rt; "32768 entries, {name}; {run}")
 }
 
 pub fn long(rt: &impl Print) -> io::Result<()> {

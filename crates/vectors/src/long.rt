@@ -25,10 +25,9 @@ fn row(rt: &impl Print, name: &str, kind: Kind, n: usize) -> io::Result<()> {
     kind.fill(column, 1);
     let said = build::build(column, &mut work, &mut out);
     let mut judge = Judge::default();
-    judge
-        .tally
-        .count(lent::cleared(&work, said.map_or(0, |_| n)));
-    judge.tally.count(lent::kept(&out, said.unwrap_or(0)));
+    let used = if said.is_ok() { n } else { 0 };
+    judge.count(lent::cleared(&work, used));
+    judge.count(lent::kept(&out, said.unwrap_or(0)));
     print!(rt; "{name} {n}:{}", Said(said))?;
     if let Ok(size) = said {
         let bytes = part::first(&out, size);

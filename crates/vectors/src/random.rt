@@ -12,9 +12,9 @@ fn column(columns: &mut Judge, asks: &mut Judge, column: &[u32]) {
     let mut like = [0xEEu8; 56];
     let said = build::build(column, &mut work, &mut out);
     let size = plain::record(column, &mut like);
-    columns.tally.count(said == Ok(size));
-    columns.tally.count(lent::cleared(&work, column.len()));
-    columns.tally.count(out == like);
+    columns.count(said == Ok(size));
+    columns.count(lent::cleared(&work, column.len()));
+    columns.count(out == like);
     let bytes = part::first(&out, size);
     columns.record::<202, 56>(bytes);
     asks.asks(column, bytes, 0);

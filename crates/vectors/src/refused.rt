@@ -66,8 +66,8 @@ fn tight(rt: &impl Print, n: usize, room: usize, numbers: usize) -> io::Result<(
         part::first_mut(&mut out, room),
     );
     let mut judge = Judge::default();
-    judge.tally.count(lent::cleared(&work, 0));
-    judge.tally.count(lent::kept(&out, 0));
+    judge.count(lent::cleared(&work, 0));
+    judge.count(lent::kept(&out, 0));
     println!(rt; "{n} into {room} with {numbers}:{}; {judge}", Said(said))
 }
 

@@ -10,14 +10,13 @@ use Rattle.rules.specs.Shape.{Paren}
 use Rattle.rules.specs.Column.{IsLeast, least}
 use Rattle.rules.specs.Excess.{closings, closing_place, excesses, Balanced, entry_between}
 use Rattle.rules.specs.Bytes.{bytes_for, all_bits, parens}
-use Rattle.rules.specs.Refusal.{answer}
-use Rattle.rules.specs.Order.{check_says}
 use Rattle.rules.proofs.Excess.{closings-append, counts-length, excesses_at}
 use Rattle.rules.proofs.Least.{least_is}
 use Rattle.rules.proofs.ClosingPlace.{closing-within, closing-order}
 use Rattle.rules.proofs.Bytes.{all_bits-length}
 use Rattle.rules.proofs.Checked.{Checked, says_checked, parens-length}
 use Rattle.rules.proofs.Counted.{excess-counts, least-closes, between-raised}
+use Rattle.checks.specs.declared.record.Record.{Record}
 use Rattle.scan.specs.declared.Scan.{Scan}
 use Rattle.ask.specs.Part.{ground_level}
 use Rattle.ask.specs.Between.{seen_from, seen_between, Asked}
@@ -27,9 +26,15 @@ pub record Names (end : Scan) (entry : ℕ) : Type 0 where
   pub near : end.place + 1 ≤ ground_level
   pub counted : end.smallest + 2 * suc entry ≡ ground_level + (end.place + 1)
 
-module _ (r : List ℕ) {n i j : ℕ} (says : check_says r ≡ answer n) (h : i ≤ j) (inside : j < n) where
+module _ (a : Record) {i j : ℕ} (h : (i ≤ j) × (j < a.entries)) where
+  abbrev r : List ℕ
+  r = a.bytes.now
+
+  abbrev n : ℕ
+  n = a.entries
+
   checked : Checked r n
-  checked = says_checked r n says
+  checked = says_checked r n a.accepted
 
   abbrev s : List Paren
   s = all_bits (drop 4 r)
@@ -64,7 +69,7 @@ module _ (r : List ℕ) {n i j : ℕ} (says : check_says r ≡ answer n) (h : i 
 
   pub asked : Asked body i j
   asked =
-      rw all (record { few = omega (arith, checked.framed.few, all_bits-length (drop 4 r), bits); order = h; among = among })
+      rw all (record { few = omega (arith, checked.framed.few, all_bits-length (drop 4 r), bits); order = h.0; among = among })
 
   pub names : {end : Scan} → end ≡ seen_between (all_bits body) i j → Names end (entry_between (parens n r) i j)
   unfolding seen_between seen_from least parens
@@ -76,12 +81,12 @@ module _ (r : List ℕ) {n i j : ℕ} (says : check_says r ≡ answer n) (h : i 
       let q = least c p z in
       let short : length s ≤ ground_level = omega (arith, bits, checked.framed.few) in
       let w = closing-within s j among in
-      let l : IsLeast c p z q = least_is c p z (closing-order s i j h among) in
+      let l : IsLeast c p z q = least_is c p z (closing-order s i j h.0 among) in
       let u : q < length s = omega (arith, l.upto) in
-      let x = between-raised ground_level (2 * n) s i j even h (omega (arith, entry_closings)) in
+      let x = between-raised ground_level (2 * n) s i j even h.0 (omega (arith, entry_closings)) in
       let y = least-closes ground_level s i z q short (omega (arith, among)) w l in
       let k = excess-counts ground_level s q short u in
       let v = excesses_at ground_level s q u in
-      let a : end.place ≡ q = ap (λ (t : Scan). t.place) e in
-      let b : end.smallest ≡ get_or c q 0 = ap (λ (t : Scan). t.smallest) e in
+      let b : end.place ≡ q = ap (λ (t : Scan). t.place) e in
+      let d : end.smallest ≡ get_or c q 0 = ap (λ (t : Scan). t.smallest) e in
       record { near = omega arith; counted = omega arith }

@@ -5,23 +5,20 @@ ghost use Rattle.std.specs.Prelude.{OnOk};
 ghost use Rattle.std.specs.Io.KnownBytes.{Appends};
 ghost use Rattle.rules.specs.Listing.{listing};
 
+use listing::Line;
 use std::io::{self, Write};
 
-// Line by line through the buffer, until nothing is left or the output takes no more. Where all is written, it is the listing.
+// Line by line, until nothing is left or the output takes no more. Where all is written, it is the listing.
 fn write_lines<W: Write>(drawer: &[u8], out: &mut W) -> io::Result<()>
     ensures { OnOk result (Appends (W.contents out.old) (W.contents out.new) (listing drawer.now)) }
 {
-    let mut line = listing::buffer();
-    let mut rest = listing::start(drawer);
-    loop {
-        let step = listing::next(drawer, rest, &mut line);
-        let length = step.length;
-        if length == 0 {
-            return Ok(());
-        }
-        out.write_all(&line[..length])?;
-        rest = step.rest;
+    let mut line = Line::new();
+    let mut rest = Some(listing::start(drawer));
+    while let Some(from) = rest {
+        rest = listing::next(drawer, from, &mut line);
+        out.write_all(line.text())?;
     }
+    Ok(())
 }
 
 fn main(rt: HostRuntime) -> io::Result<()> {

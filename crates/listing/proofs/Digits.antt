@@ -1,16 +1,13 @@
--- How many digits a number has, and a number written with its last digit behind the others.
+-- How many digits a number has.
 -- Assumes nothing.
 use mathlib.Core.Path.{◌≡◌, ap, ◌∙◌}
 use Prim.Native.Nat.{ℕ, zero, suc, ◌+◌, ◌*◌, ◌/◌, ◌%◌, ◌^◌, ◌≤◌, ◌<◌}
 use native.Mathlib.Nat.{pow-succ'}
 use native.Mathlib.Decide.{dec_lt}
 use native.Mathlib.Omega.{arith}
-use mathlib.Core.List.{List}
-use lib.ListN.{length, set, length-append}
+use lib.ListN.{length, length-append}
 use Rattle.rules.specs.Listing.{decimal, digit}
 use Rattle.rules.proofs.Listing.{decimal-one, decimal-more}
-use Rattle.listing.specs.Wrote.{Wrote, line_room}
-use Rattle.listing.proofs.Writing.{wrote_both, wrote_one}
 
 pub one-digit : (x : ℕ) → x < 10 → length (decimal x) ≡ 1
 one-digit x h = ap length (decimal-one x h)
@@ -32,9 +29,3 @@ digits_most (suc k) x h = by (dec_lt x 10) (λ l. digits_most k (x / 10) l)
 -- a number of 64 bits has at most 20 digits
 pub twenty : (x : ℕ) → x < 2 ^ 64 → length (decimal x) ≤ 20
 twenty x h = digits_most 19 x (omega (arith, h))
-
-pub wrote_digit : (o : List ℕ) (at x : ℕ) → x < 10 → at < line_room → Wrote o at (decimal x) (at + 1) (set o at (48 + x))
-wrote_digit o at x h l = rw (decimal-one x h) (wrote_one o at (48 + x) l)
-
-pub wrote_last : {o o' : List ℕ} {at r : ℕ} (x : ℕ) → 10 ≤ x → Wrote o at (decimal (x / 10)) r o' → r < line_room → Wrote o at (decimal x) (r + 1) (set o' r (48 + x % 10))
-wrote_last {o'} {r} x h w l = rw (decimal-more x h) (wrote_both w (wrote_one o' r (48 + x % 10) l))

@@ -1,4 +1,3 @@
-pub mod Writing
 pub mod Digits
 pub mod Turned
 pub mod Parens

@@ -1,22 +1,22 @@
 -- What of a listing is still to be written, and one line of it.
-use Rattle.std.specs.Prelude.{◌≡◌, ℕ, ◌+◌, ◌-◌, ◌≤◌, cond, List, [], ◌∷◌, ltb, length, drop}
-use Rattle.std.proofs.lemmas.List.Edits.{sets}
+use Rattle.std.specs.Prelude.{◌≡◌, ℕ, ◌+◌, ◌-◌, cond, List, [], ◌∷◌, ltb, length, drop, Option, Some, None}
 use Rattle.rules.specs.Bytes.{record_length}
 use Rattle.rules.specs.Refusal.{Outcome, answer, refusal}
 use Rattle.rules.specs.Order.{frame_says}
 use Rattle.rules.specs.Drawer.{most_bytes, most_records}
 use Rattle.rules.specs.Listing.{end_line, long_line, lines_from, ended_lines, listing_lines}
-use Rattle.listing.specs.Wrote.{line_room}
 use Rattle.listing.specs.declared.Rest.{Rest}
-use Rattle.listing.specs.declared.Rest.TheVariants.{Lines, End, Long, Nothing}
-use Rattle.listing.specs.declared.Step.{Step}
+use Rattle.listing.specs.declared.Rest.TheVariants.{Lines, End, Long}
 
 -- the lines that are left of the listing of d
-abbrev pub lines_left : List ℕ → Rest → List (List ℕ)
-lines_left d (Lines k at) = ended_lines k (lines_from (most_records - k) k (drop at d))
-lines_left d (End c) = end_line c ∷ []
-lines_left d Long = long_line ∷ []
-lines_left d Nothing = []
+abbrev pub lines_of : List ℕ → Rest → List (List ℕ)
+lines_of d (Lines k at) = ended_lines k (lines_from (most_records - k) k (drop at d))
+lines_of d (End c) = end_line c ∷ []
+lines_of d Long = long_line ∷ []
+
+abbrev pub lines_left : List ℕ → Option Rest → List (List ℕ)
+lines_left d None = []
+lines_left d (Some from) = lines_of d from
 
 -- the first of some lines, nothing where there is none; and the others
 abbrev pub first_line : List (List ℕ) → List ℕ
@@ -36,27 +36,24 @@ abbrev pub behind_frame : ℕ → ℕ → Outcome → Rest
 behind_frame k at (answer n) = Lines (k + 1) (at + record_length n)
 behind_frame k at (refusal x) = End (k + 1)
 
-unfoldable pub behind_line : List ℕ → ℕ → ℕ → Rest
+unfoldable pub behind_line : List ℕ → ℕ → ℕ → Option Rest
 behind_line d k at =
-    cond (ltb at (length d)) (cond (ltb k most_records) (behind_frame k at (frame_says (drop at d))) (End (k + 1))) Nothing
+    cond (ltb at (length d)) (Some (cond (ltb k most_records) (behind_frame k at (frame_says (drop at d))) (End (k + 1)))) None
 
-abbrev pub rest_after : List ℕ → Rest → Rest
-rest_after d (Lines k at) = behind_line d k at
-rest_after d (End c) = Nothing
-rest_after d Long = Nothing
-rest_after d Nothing = Nothing
+abbrev pub rest_of : List ℕ → Rest → Option Rest
+rest_of d (Lines k at) = behind_line d k at
+rest_of d (End c) = None
+rest_of d Long = None
 
 -- ---- the contracts
 
 -- nothing is written yet
 pub record Starts (d : List ℕ) (r : Rest) : Type 0 where
-  pub lines : lines_left d r ≡ listing_lines d
+  pub lines : lines_of d r ≡ listing_lines d
   pub value : r ≡ all_of d
 
--- the first line that is left stands at the start of the buffer, and nothing behind it has changed; the others are left then
-pub record WritesLine (d : List ℕ) (from : Rest) (o : List ℕ) (s : Step) (o' : List ℕ) : Type 0 where
-  pub size : s.length ≡ length (first_line (lines_left d from))
-  pub room : s.length ≤ line_room
-  pub out : o' ≡ sets o 0 (first_line (lines_left d from))
-  pub lines : lines_left d s.rest ≡ other_lines (lines_left d from)
-  pub value : s.rest ≡ rest_after d from
+-- the text is the first line that is left; the others are left then
+pub record WritesLine (d : List ℕ) (from : Rest) (r : Option Rest) (t : List ℕ) : Type 0 where
+  pub text : t ≡ first_line (lines_of d from)
+  pub lines : lines_left d r ≡ other_lines (lines_of d from)
+  pub value : r ≡ rest_of d from

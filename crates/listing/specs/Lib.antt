@@ -1,3 +1,3 @@
-pub mod Wrote
+pub mod Room
 pub mod Bit
 pub mod Left

@@ -1,20 +1,19 @@
-// Document 01, "The listing": the text of a drawer, one line at a time. A line is written at the start of a lent
-// buffer that holds the longest of them; the caller passes it on and comes back for the next. All lines together
-// take a number of steps in proportion to the drawer's length.
+// Document 01, "The listing": the text of a drawer, one line at a time. A line has room for the longest of them; the
+// caller passes it on and comes back for the next. All lines together take a number of steps in proportion to the
+// drawer's length.
 #![tactic(auto)]
 
+mod line;
 mod lines;
 mod shape;
-mod text;
 
-ghost use Rattle.std.specs.Prelude.{◌≡◌, replicate};
-ghost use Rattle.listing.specs.Wrote.{line_room};
 ghost use Rattle.listing.specs.Left.{Starts, WritesLine};
 
-use answers::Answer;
+use answers::Refusal;
+pub use line::Line;
 
-// What of a listing is still to be written.
-#[derive(Clone, Copy)]
+// What of a listing is still to be written: one line at least.
+#[derive(Clone, Copy, Debug, PartialEq, Eq)]
 pub enum Rest {
     // The lines from a record on: its number, and its place in the drawer.
     Lines(u8, usize),
@@ -22,23 +21,6 @@ pub enum Rest {
     End(usize),
     // The one line of a drawer that is too long.
     Long,
-    Nothing,
-}
-
-// The length of the line that was written, and what is left.
-#[derive(Clone, Copy)]
-pub struct Step {
-    pub length: usize,
-    pub rest: Rest,
-}
-
-// Room for the longest line: three numbers with a blank behind each, 65,536 parentheses and the line's end.
-pub type Line = [u8; 65600];
-
-pub fn buffer() -> Line
-    ensures { result ≡ replicate line_room 0 }
-{
-    [0; 65600]
 }
 
 // The whole listing of a drawer, nothing of it written yet.
@@ -52,56 +34,46 @@ pub fn start(drawer: &[u8]) -> Rest
 }
 
 // The line of the record at a place, or the one that stops the listing, or the last line where the drawer ends.
-fn line_at(drawer: &[u8], k: u8, at: usize, out: &mut Line) -> Step
-    ensures { WritesLine drawer.now (Rest.Lines k at) out.old result out.new }
+fn line_at(drawer: &[u8], k: u8, at: usize, line: &mut Line) -> Option<Rest>
+    ensures { WritesLine drawer.now (Rest.Lines k at) result line.new }
 {
-    let number = k as usize;
-    let count = number + 1;
+    let number = usize::from(k);
     if drawer.len() <= at {
-        return Step {
-            length: lines::end(number, out),
-            rest: Rest::Nothing,
-        };
+        lines::end(number, line);
+        return None;
     }
+    // behind a refusal that stops the listing comes the last line
+    let stopped = Some(Rest::End(number + 1));
     if 64 <= k {
-        return Step {
-            length: lines::refused(number, 14, out),
-            rest: Rest::End(count),
-        };
+        lines::refused(number, Refusal::DrawerFull, line);
+        return stopped;
     }
-    match checks::frame(&drawer[at..]) {
-        Answer::Is(n) => {
-            let end = at + (4 + (n + 3) / 4);
-            Step {
-                length: lines::judged(number, &drawer[at..end], out),
-                rest: Rest::Lines(k + 1, end),
-            }
+    match drawer::record_at(drawer, at) {
+        Ok(place) => {
+            let end = place.at + place.size;
+            lines::judged(number, &drawer[place.at..end], line);
+            Some(Rest::Lines(k + 1, end))
         }
-        Answer::Refused(x) => Step {
-            length: lines::refused(number, answers::number_of(x), out),
-            rest: Rest::End(count),
-        },
+        Err(x) => {
+            lines::refused(number, x, line);
+            stopped
+        }
     }
 }
 
-// The first of the lines that are left, at the start of the buffer, with its length and what is left behind it; a
-// length of 0 where nothing was left.
-pub fn next(drawer: &[u8], rest: Rest, out: &mut Line) -> Step
-    ensures { WritesLine drawer.now rest out.old result out.new }
+// Writes the first of the lines that are left, over what the line had, and answers what is left behind it.
+pub fn next(drawer: &[u8], rest: Rest, line: &mut Line) -> Option<Rest>
+    ensures { WritesLine drawer.now rest result line.new }
 {
     match rest {
-        Rest::Lines(k, at) => line_at(drawer, k, at, out),
-        Rest::End(count) => Step {
-            length: lines::end(count, out),
-            rest: Rest::Nothing,
-        },
-        Rest::Long => Step {
-            length: lines::long(out),
-            rest: Rest::Nothing,
-        },
-        Rest::Nothing => Step {
-            length: 0,
-            rest: Rest::Nothing,
-        },
+        Rest::Lines(k, at) => line_at(drawer, k, at, line),
+        Rest::End(count) => {
+            lines::end(count, line);
+            None
+        }
+        Rest::Long => {
+            lines::long(line);
+            None
+        }
     }
 }

@@ -4,9 +4,6 @@ use mathlib.Core.Path.{refl}
 use Rattle.listing.proofs.Onward.{writes}
 use Rattle.listing.proofs.next.Goals as goal
 
-pub returns-in-Lines : goal.returns-in-Lines
-returns-in-Lines c = rw c.in-Lines.is c.line_at.ensures
-
 pub returns-in-End : goal.returns-in-End
 returns-in-End c = rw c.in-End.is (writes refl refl c.end.ensures)
 

@@ -1,17 +1,17 @@
 -- `listing::lines::end` meets its contract.
 -- Assumes nothing.
 use native.Mathlib.Omega.{arith}
+use lib.ListN.{length-append}
 use Rattle.rules.specs.Listing.{end_line}
-use Rattle.listing.proofs.Writing.{wrote_both}
 use Rattle.listing.proofs.Digits.{twenty}
 use Rattle.listing.proofs.lines.end.Goals as goal
 
-pub number-b-requires : goal.number-b-requires
-number-b-requires c = omega (arith, twenty c.args.count (omega arith), c.word-a.ensures.behind)
+pub number-requires : goal.number-requires
+number-requires c = rw (c.word.ensures, c.clear.ensures) (omega (arith, twenty c.args.count (omega arith)))
 
-pub word-requires : goal.word-requires
-word-requires c = omega (arith, twenty c.args.count (omega arith), c.number-b.ensures.behind)
+pub word-requires-2 : goal.word-requires-2
+word-requires-2 c = rw (c.number.ensures, c.word.ensures, c.clear.ensures) (simp length-append (omega (arith, twenty c.args.count (omega arith))))
 
 pub returns : goal.returns
 unfolding end_line
-returns c = wrote_both (wrote_both c.word-a.ensures c.number-b.ensures) c.word.ensures
+returns c = rw (c.word-2.ensures, c.number.ensures, c.word.ensures, c.clear.ensures)

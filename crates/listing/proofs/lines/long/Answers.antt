@@ -5,4 +5,4 @@ use Rattle.listing.proofs.lines.long.Goals as goal
 
 pub returns : goal.returns
 unfolding decimal_of decimal long_line
-returns c = c.word.ensures
+returns c = rw (c.word.ensures, c.clear.ensures)

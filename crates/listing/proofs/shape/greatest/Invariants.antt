@@ -1,12 +1,7 @@
 -- `listing::shape::greatest` meets its contract. The loop's invariant: the first k bytes are read.
 -- Assumes nothing.
-use Prim.Native.Nat.{◌-◌}
-use lib.ListN.{length}
 use Rattle.listing.proofs.Turned.{Turning}
 use Rattle.listing.proofs.shape.greatest.Given as goal
 
 abbrev pub invariant-loop-k : goal.invariant-loop-k
 invariant-loop-k l = Turning l.body l.st l.k
-
-abbrev pub decreases-loop-k : goal.decreases-loop-k
-decreases-loop-k l = length l.body - l.k

@@ -1,5 +1,0 @@
--- `listing::text::number` ends: the measure is the number. Assumes nothing.
-use Rattle.listing.proofs.text.+number.Given as goal
-
-abbrev pub decreases-number : goal.decreases-number
-decreases-number l = l.x

@@ -7,6 +7,7 @@ use mathlib.Core.List.{List, [], ◌∷◌, ◌++◌, append_assoc, append-nil, 
 use native.Mathlib.Decide.{dec_lt}
 use mathlib.Core.Bool.{Bool, true, false, cond}
 use borrow.Author.Tests.{lt-ltb, le-ltb}
+use Rattle.std.specs.Prelude.{Option, Some, None}
 use lib.Dec.{ltb}
 use lib.ListN.{length, take, drop, length-append, length-take}
 use lib.Seq.{take_at, drop_at}
@@ -22,9 +23,8 @@ use Rattle.rules.proofs.Drawer.{append_answers, build_answers}
 use Rattle.rules.proofs.Listing.{listings}
 use Rattle.append.proofs.Drawers.{appending}
 use Rattle.listing.specs.declared.Rest.{Rest}
-use Rattle.listing.specs.declared.Rest.TheVariants.{Lines, End, Long, Nothing}
-use Rattle.listing.specs.declared.Step.{Step}
-use Rattle.listing.specs.Left.{lines_left, first_line, other_lines, all_of, behind_line, rest_after}
+use Rattle.listing.specs.declared.Rest.TheVariants.{Lines, End, Long}
+use Rattle.listing.specs.Left.{lines_of, lines_left, first_line, other_lines, all_of, behind_line, rest_of}
 use Rattle.listing.proofs.Onward.{left_end, left-full, left-fault, left-more, behind_end, behind-full, behind-record}
 use Rattle.promises.specs.Listed.{Made, none, more, column_lines, calls, Listed}
 use Rattle.promises.proofs.Demand2.{column-accepted, column-parens}
@@ -122,54 +122,45 @@ appended b u cs made =
 
 -- ---- the calls of a run
 
-onward : (d : List ℕ) (from : Rest) → lines_left d (rest_after d from) ≡ other_lines (lines_left d from)
+onward : (d : List ℕ) (from : Rest) → lines_left d (rest_of d from) ≡ other_lines (lines_of d from)
 onward d (End c) = refl
 onward d Long = refl
-onward d Nothing = refl
 onward d (Lines k at) = by (dec_lt at (length d)) (dec_lt k most_records) (frame_says (drop at d)) refl
   where
     by : Dec (at < length d) → Dec (k < most_records) → (o : Outcome) → frame_says (drop at d) ≡ o
-        → lines_left d (behind_line d k at) ≡ other_lines (lines_left d (Lines k at))
+        → lines_left d (behind_line d k at) ≡ other_lines (lines_of d (Lines k at))
     by (no p) q o e = let h : length d ≤ at = omega arith in rw (behind_end d k at h, left_end d k at h)
     by (yes p) (no q) o e = let h : most_records ≤ k = omega arith in rw (behind-full d k at p h, left-full d k at p h)
     by (yes p) (yes q) (answer n) e = rw (behind-record d k at p q e, left-more d k at p n q e)
     by (yes p) (yes q) (refusal x) e = rw (behind-record d k at p q e, left-fault d k at p x q e)
 
-run : (m : ℕ) (d : List ℕ) (from : Rest) → length (lines_left d from) ≤ m → flatten (calls m d from) ≡ flatten (lines_left d from)
+run : (m : ℕ) (d : List ℕ) (from : Option Rest) → length (lines_left d from) ≤ m → flatten (calls m d from) ≡ flatten (lines_left d from)
 unfolding calls flatten
 run zero d from h = by (lines_left d from) h
   where
     by : (ls : List (List ℕ)) → length ls ≤ 0 → [] ≡ flatten ls
     by [] h = refl
     by (l ∷ ls) h = absurd (omega arith)
-run (suc m) d from h = by (lines_left d from) h (onward d from) (run m d (rest_after d from))
+run (suc m) d None h = refl
+run (suc m) d (Some from) h = by (lines_of d from) h (onward d from) (run m d (rest_of d from))
   where
-    by : (ls : List (List ℕ)) → length ls ≤ suc m → lines_left d (rest_after d from) ≡ other_lines ls
-        → (length (lines_left d (rest_after d from)) ≤ m → flatten (calls m d (rest_after d from)) ≡ flatten (lines_left d (rest_after d from)))
-        → first_line ls ++ flatten (calls m d (rest_after d from)) ≡ flatten ls
+    by : (ls : List (List ℕ)) → length ls ≤ suc m → lines_left d (rest_of d from) ≡ other_lines ls
+        → (length (lines_left d (rest_of d from)) ≤ m → flatten (calls m d (rest_of d from)) ≡ flatten (lines_left d (rest_of d from)))
+        → first_line ls ++ flatten (calls m d (rest_of d from)) ≡ flatten ls
     by [] h e next = next (rw e (omega arith)) ∙ rw e
     by (l ∷ ls) h e next = ap (λ x. l ++ x) (next (rw e (omega arith)) ∙ rw e)
 
-all_lines : (d : List ℕ) → lines_left d (all_of d) ≡ listing_lines d
+all_lines : (d : List ℕ) → lines_of d (all_of d) ≡ listing_lines d
 unfolding all_of listing_lines
 all_lines d = by (ltb most_bytes (length d))
   where
-    by : (t : Bool) → lines_left d (cond t Long (Lines 0 0)) ≡ cond t (long_line ∷ []) (ended_lines 0 (lines_from most_records 0 d))
+    by : (t : Bool) → lines_of d (cond t Long (Lines 0 0)) ≡ cond t (long_line ∷ []) (ended_lines 0 (lines_from most_records 0 d))
     by true = refl
     by false = refl
 
-whole : (d : List ℕ) (m : ℕ) → length (listing_lines d) ≤ m → flatten (calls m d (all_of d)) ≡ listing d
+whole : (d : List ℕ) (m : ℕ) → length (listing_lines d) ≤ m → flatten (calls m d (Some (all_of d))) ≡ listing d
 unfolding listing
-whole d m h = run m d (all_of d) (rw (all_lines d) h) ∙ ap flatten (all_lines d)
-
--- ---- one result
-
-step : ℕ → Rest → Step
-step l r = record { length = l; rest = r }
-
-same_step : (s t : Step) → s.length ≡ t.length → s.rest ≡ t.rest → s ≡ t
-unfolding step
-same_step s t e f = ap (λ l. step l s.rest) e ∙ ap (λ r. step t.length r) f
+whole d m h = run m d (Some (all_of d)) (rw (all_lines d) h) ∙ ap flatten (all_lines d)
 
 pub listed : Listed
 listed =
@@ -178,5 +169,5 @@ listed =
       appended = appended;
       whole = whole;
       start_once = λ d x y s t. s.value ∙ sym t.value;
-      next_once = λ d from o s t x y v w. (same_step s t (v.size ∙ sym w.size) (v.value ∙ sym w.value), v.out ∙ sym w.out);
+      next_once = λ d from s t x y v w. (v.value ∙ sym w.value, v.text ∙ sym w.text);
     }

@@ -5,8 +5,7 @@ use mathlib.Core.List.{List}
 use Rattle.rules.specs.Refusal.{Outcome, refusal}
 use Rattle.rules.specs.Order.{ask_says}
 use Rattle.rules.specs.Summary.{QuickSays}
-use Rattle.answers.specs.Said.{Answer}
-use Rattle.answers.specs.Said.{said}
+use Rattle.answers.specs.Said.{Answer, said}
 use Rattle.answers.proofs.Said.{said_once}
 use Rattle.promises.specs.Once.{Settled, refused, own, named, Once}
 

@@ -5,8 +5,7 @@ use Rattle.rules.specs.Bytes.{parens}
 use Rattle.rules.specs.Refusal.{answer, refusal}
 use Rattle.rules.specs.Order.{frame_says, check_says, ask_says}
 use Rattle.rules.specs.Summary.{slots, summary_of, quick_checks, IsStrange, QuickSays}
-use Rattle.answers.specs.Said.{Answer}
-use Rattle.answers.specs.Said.{said}
+use Rattle.answers.specs.Said.{Answer, said}
 use Rattle.build.specs.Builds.{Builds}
 use Rattle.stand_in.specs.StandsIn.{StandsIn}
 use Rattle.summary.specs.Fills.{Fills}

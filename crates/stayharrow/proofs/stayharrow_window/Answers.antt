@@ -1,8 +1,0 @@
--- `stayharrow::stayharrow_window` meets its contract: the answer is coded, as 0 where nothing is refused.
--- Assumes nothing.
-use mathlib.Core.Path.{ap, ◌∙◌}
-use Rattle.stayharrow.specs.Coded.{coded, accepted}
-use Rattle.stayharrow.proofs.stayharrow_window.Goals as goal
-
-pub returns : goal.returns
-returns c = c.acceptance.ensures ∙ ap (λ o. coded (accepted o)) c.refusal_of.ensures

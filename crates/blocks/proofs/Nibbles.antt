@@ -1,6 +1,6 @@
 -- What the constants say of four bits, by a computed test over all of them.
 -- Assumes nothing.
-use mathlib.Core.Path.{◌≡◌, ◌∙◌, ap}
+use mathlib.Core.Path.{◌≡◌}
 use Prim.Native.Nat.{ℕ, ◌+◌, ◌*◌, ◌/◌, ◌%◌, ◌^◌, ◌<◌}
 use native.Mathlib.Omega.{arith}
 use mathlib.Core.Bool.{Bool, true, cond}
@@ -13,9 +13,6 @@ use Rattle.words.proofs.Low.{low_bits_low}
 use Rattle.blocks.proofs.Bits.{closings_few}
 
 -- as the code works it out
-abbrev pub counted : ℕ → ℕ
-counted v = 0x0112_1223_1223_2334 / 2 ^ (4 * v) % 16
-
 abbrev pub placed : ℕ → ℕ → ℕ → ℕ
 placed places v k = places / 2 ^ (4 * v + 2 * (k % 2)) % 4
 
@@ -26,12 +23,6 @@ places_of k = cond (ltb k 2) 0x0014_2894_3cd4_e894 0x0000_0002_0003_033e
 -- a rule of each four bits
 four_bits : (f : ℕ → Bool) → T (all_below 16 f) → (x : ℕ) → T (f (x % 16))
 four_bits f t x = below_at 16 f t (x % 16) (omega arith)
-
-pub count_right : (x : ℕ) → counted (x % 16) ≡ closings (low_bits 4 x)
-unfolding closings low_bits paren
-count_right x =
-    eqb→eq (counted (x % 16)) (closings (low_bits 4 (x % 16))) (four_bits (λ v. eqb (counted v) (closings (low_bits 4 v))) tt x)
-    ∙ ap closings (low_bits_low 4 x)
 
 right : ℕ → ℕ → Bool
 right k v = cond (ltb k (closings (low_bits 4 v))) (eqb (placed (places_of k) v k) (closing_place (low_bits 4 v) k)) true

@@ -13,18 +13,12 @@ pub struct Narrow {
     pub at: usize,
 }
 
-// The closings among the four lowest bits v: digit v of sixteen.
-fn count_four(bits: u64) -> usize
-    ensures { result ≡ closings (low_bits 4 bits) }
+// The closings among the w lowest bits: those that are not set.
+pub fn count(bits: u64, w: u32) -> usize
+    requires { w < 64 }
+    ensures { result ≡ closings (low_bits w bits) }
 {
-    ((0x0112_1223_1223_2334u64 >> (4 * (bits % 16))) % 16) as usize
-}
-
-// The closings among the eight lowest bits.
-pub fn count_eight(bits: u64) -> usize
-    ensures { result ≡ closings (low_bits 8 bits) }
-{
-    count_four(bits) + count_four(bits >> 4)
+    (w - (bits % (1 << w)).count_ones()) as usize
 }
 
 // Where closing number k of the four lowest bits v stands: half of digit v, the places of closings 0 and 1
@@ -46,7 +40,7 @@ fn half(n: Narrow) -> Narrow
     requires { (n.k < closings (low_bits 8 n.bits)) × (n.at ≤ 1048576) }
     ensures { Leads 8 n 4 result }
 {
-    let c = count_four(n.bits);
+    let c = count(n.bits, 4);
     if n.k < c {
         return n;
     }

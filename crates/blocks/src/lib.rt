@@ -27,7 +27,7 @@ fn rest(part: &[u8], k: usize) -> Option<usize>
             k: left,
             at: 8 * m,
         };
-        let c = byte::count_eight(n.bits);
+        let c = byte::count(n.bits, 8);
         if left < c {
             return Some(byte::nth(n));
         }
@@ -98,7 +98,7 @@ fn last(t: Summary<'_>, blocks: usize, first: usize, q: usize) -> usize
 {
     if q < 127 {
         let next = t.block_of(q + 1);
-        if first <= next && next < blocks {
+        if (first..blocks).contains(&next) {
             return next;
         }
     }

@@ -35,7 +35,7 @@ pub fn to_byte(n: Narrow, sums: u64) -> Narrow
     let k = n.k as u64;
     let passed = ((0x0101_0101_0101_0101 * k + 0x8080_8080_8080_8080) - sums)
         & 0x8080_8080_8080_8080;
-    let d = 64 - u64::leading_zeros(passed);
+    let d = 64 - passed.leading_zeros();
     let before = ((sums << 8) >> d) % 256;
     Narrow {
         bits: n.bits >> d,

@@ -17,7 +17,7 @@ impl<'a> Summary<'a> {
         requires { k < length self.numbers.now }
         ensures { (result ≡ get_or self.entry.numbers.now k 0) × (result ≤ 65535) }
     {
-        self.numbers[k] as usize
+        usize::from(self.numbers[k])
     }
 
     // The number of node v of the tree.
@@ -25,7 +25,7 @@ impl<'a> Summary<'a> {
         requires { v < 512 }
         ensures { (result ≡ get_or self.entry.numbers.now (256 + v) 0) × (result ≤ 65535) }
     {
-        self.numbers[256 + v] as usize
+        usize::from(self.numbers[256 + v])
     }
 
     // The leaf of block k: the smallest excess in it.
@@ -33,7 +33,7 @@ impl<'a> Summary<'a> {
         requires { k < 256 }
         ensures { (result ≡ get_or self.entry.numbers.now (512 + k) 0) × (result ≤ 65535) }
     {
-        self.numbers[512 + k] as usize
+        usize::from(self.numbers[512 + k])
     }
 
     // The block in which closing number 256 q stands.
@@ -41,6 +41,6 @@ impl<'a> Summary<'a> {
         requires { q < 128 }
         ensures { (result ≡ get_or self.entry.numbers.now (768 + q) 0) × (result ≤ 65535) }
     {
-        self.numbers[768 + q] as usize
+        usize::from(self.numbers[768 + q])
     }
 }

@@ -116,6 +116,6 @@ pub fn over(t: Summary<'_>, a: usize, b: usize) -> usize
     ensures { Over t.entry.numbers.now a b result }
 {
     let l = 256 + a;
-    let level = 64 - u64::leading_zeros((l ^ (256 + b)) as u64);
+    let level = 64 - (l ^ (256 + b)).leading_zeros();
     t.node(l >> level)
 }

@@ -24,7 +24,7 @@ returns-then-left-c c =
 
 pub loop-m-preserved : goal.loop-m-preserved
 loop-m-preserved c =
-    rw c.count_eight-c.ensures
+    rw c.count-c.ensures
     (left_on c.args.part.now c.loop-m.m c.loop-m.left c.args.k (omega arith) c.loop-m.invariant 1 (low_bits 8 c.from.result) (omega arith) (ahead c.args.part.now c.loop-m.m c.from.result (omega arith) c.from.ensures) (omega arith))
 
 pub returns : goal.returns

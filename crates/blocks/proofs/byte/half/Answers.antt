@@ -10,4 +10,4 @@ returns-then-n-c c = leads_low 4 8 c.args.n (omega arith) (omega arith)
 pub returns : goal.returns
 returns c =
     let n = c.args.n in
-    rw c.count_four-c.ensures (leads 4 4 8 n (omega arith) (omega arith) (omega arith))
+    rw c.count-c.ensures (leads 4 4 8 n (omega arith) (omega arith) (omega arith))

@@ -189,5 +189,6 @@ module _ (x k : ℕ) (among : k < closings (low_bits 64 x)) where
         ahead = rw (start_is, e) (first.ahead not_all);
       }
 
-pub narrows : (s x k : ℕ) → s ≡ joined 8 (sum_at x) → k < closings (low_bits 64 x) → Narrows s x k
-narrows s x k e h = rw e (narrows-sums x k h)
+-- as `to_byte` asks it
+pub narrows : {s x k at : ℕ} → (s ≡ joined 8 (sum_at x)) × (k < closings (low_bits 64 x)) × (at ≤ 1048576) → Narrows s x k
+narrows {s} {x} {k} {at} (e, h, l) = rw e (narrows-sums x k h)

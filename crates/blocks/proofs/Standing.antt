@@ -2,7 +2,7 @@
 -- block is the one that it says. Assumes nothing.
 use mathlib.Core.Path.{◌≡◌, refl, ap, ◌∙◌}
 use mathlib.Core.Logic.{⊎_elim}
-use Prim.Native.Nat.{ℕ, zero, suc, min, ◌+◌, ◌-◌, ◌*◌, ◌/◌, ◌≤◌, ◌<◌}
+use Prim.Native.Nat.{ℕ, min, ◌+◌, ◌-◌, ◌*◌, ◌/◌, ◌≤◌, ◌<◌}
 use native.Mathlib.Decide.{dec_lt}
 use native.Mathlib.Omega.{arith}
 use mathlib.Core.Bool.{Bool, true, false}
@@ -15,11 +15,11 @@ use Rattle.rules.specs.Summary.{none, blocks_for, closing_block}
 use Rattle.rules.proofs.Excess.{counts-length}
 use Rattle.rules.proofs.ClosingPlace.{closing-within, closing-among, closing-order}
 use Rattle.rules.proofs.Summary.{filled_at, slot_end, slot-closing, end_stands, end_closings, closing-block, no-closing}
-use Rattle.rules.proofs.Blocks.{closing_behind, excess-closings}
-use Rattle.blocks.specs.Search.{Own, Passed, Stops, Last, Before}
+use Rattle.rules.proofs.Blocks.{closing_behind}
+use Rattle.blocks.specs.Search.{Own, Passed, Stops, Last}
 
 module _ {t : List ℕ} {s : List Paren} {n : ℕ} (own : Own t s n) where
-  pub own_closings : closings s ≡ n
+  own_closings : closings s ≡ n
   own_closings = omega (arith, own.balance.last, counts-length s, own.long)
 
   end_at : (k : ℕ) → k + 1 < blocks_for n → get_or t k 0 + 2 * closings (take (256 * (k + 1)) s) ≡ 256 * (k + 1)
@@ -30,24 +30,25 @@ module _ {t : List ℕ} {s : List Paren} {n : ℕ} (own : Own t s n) where
   slot_at : (q : ℕ) → q < 128 → get_or t (768 + q) 0 ≡ closing_block s q
   slot_at q h = filled_at t s own.filled (768 + q) (omega arith) ∙ slot-closing s q
 
-  pub first_at : (q : ℕ) → q < 128 → 256 * q < n → get_or t (768 + q) 0 ≡ closing_place s (256 * q) / 256
+  first_at : (q : ℕ) → q < 128 → 256 * q < n → get_or t (768 + q) 0 ≡ closing_place s (256 * q) / 256
   first_at q h l = slot_at q h ∙ closing-block s n own.long own.balance q l
 
   none_at : (q : ℕ) → q < 128 → n ≤ 256 * q → get_or t (768 + q) 0 ≡ none
   none_at q h l = slot_at q h ∙ no-closing s n own.long own.balance q l
 
-  module _ (i : ℕ) (l : i < n) where
+  -- closing number i, and the block named for the closings from 256 (i / 256) on
+  module _ (i : ℕ) (l : i < n) (first : ℕ) (named : first ≡ get_or t (768 + i / 256) 0) where
     inside : closing_place s i < 2 * n
     inside = omega (arith, closing-within s i (omega (arith, own_closings)), own.long)
 
     order : (a b : ℕ) → a ≤ b → b < n → closing_place s a ≤ closing_place s b
     order a b h g = closing-order s a b h (omega (arith, own_closings))
 
-    from_first : get_or t (768 + i / 256) 0 ≤ closing_place s i / 256
+    from_first : first ≤ closing_place s i / 256
     from_first =
         omega (arith, first_at (i / 256) (omega (arith, own.few)) (omega arith), order (256 * (i / 256)) i (omega arith) l)
 
-    pub not-strange : get_or t (768 + i / 256) 0 < blocks_for n
+    pub not-strange : first < blocks_for n
     not-strange = omega (arith, from_first, inside)
 
     upto-named : (q : ℕ) → q < 127 → i < 256 * (q + 1) → get_or t (769 + q) 0 < blocks_for n → closing_place s i / 256 ≤ get_or t (769 + q) 0
@@ -62,7 +63,7 @@ module _ {t : List ℕ} {s : List Paren} {n : ℕ} (own : Own t s n) where
             let f : get_or t (769 + q) 0 ≡ none = rw e at (none_at (q + 1) (omega arith) (omega arith)) in
             absurd (omega (arith, own.few))
 
-    upto-last : (r : ℕ) → Last t (blocks_for n) (get_or t (768 + i / 256) 0) (i / 256) r → closing_place s i / 256 ≤ r
+    upto-last : (r : ℕ) → Last t (blocks_for n) first (i / 256) r → closing_place s i / 256 ≤ r
     upto-last r w =
         ⊎_elim
         (λ m. let e = m.1 in let b = w.within in omega (arith, upto-named (i / 256) m.0 (omega arith) (omega arith)))
@@ -80,23 +81,23 @@ module _ {t : List ℕ} {s : List Paren} {n : ℕ} (own : Own t s n) where
     upto k h p = omega (arith, closing-among s i (256 * (k + 1)) (omega (arith, end_at k h)))
 
     -- one of three blocks, and it is not passed
-    pub stands-near : (a b c : Bool) (r : ℕ) → Passed t i (get_or t (768 + i / 256) 0) a → Passed t i (get_or t (768 + i / 256) 0 + 1) b
-        → r ≡ get_or t (768 + i / 256) 0 + from_bool a + from_bool b → r + 1 < blocks_for n → Passed t i r c → c ≡ false → closing_place s i / 256 ≡ r
+    pub stands-near : (a b c : Bool) (r : ℕ) → Passed t i first a → Passed t i (first + 1) b
+        → r ≡ first + from_bool a + from_bool b → r + 1 < blocks_for n → Passed t i r c → c ≡ false → closing_place s i / 256 ≡ r
     stands-near a b c r pa pb e h pc z =
         omega (arith, lower a b pa pb e, upto r h (pc.ahead z))
       where
-        lower : (a b : Bool) → Passed t i (get_or t (768 + i / 256) 0) a → Passed t i (get_or t (768 + i / 256) 0 + 1) b
-            → r ≡ get_or t (768 + i / 256) 0 + from_bool a + from_bool b → r ≤ closing_place s i / 256
-        lower true true pa pb e = omega (arith, behind (get_or t (768 + i / 256) 0 + 1) (omega arith) (pb.behind refl))
-        lower false true pa pb e = omega (arith, behind (get_or t (768 + i / 256) 0 + 1) (omega arith) (pb.behind refl))
-        lower true false pa pb e = omega (arith, behind (get_or t (768 + i / 256) 0) (omega arith) (pa.behind refl))
+        lower : (a b : Bool) → Passed t i first a → Passed t i (first + 1) b
+            → r ≡ first + from_bool a + from_bool b → r ≤ closing_place s i / 256
+        lower true true pa pb e = omega (arith, behind (first + 1) (omega arith) (pb.behind refl))
+        lower false true pa pb e = omega (arith, behind (first + 1) (omega arith) (pb.behind refl))
+        lower true false pa pb e = omega (arith, behind first (omega arith) (pa.behind refl))
         lower false false pa pb e = omega (arith, from_first)
 
     -- the block that the search stops at
-    pub stands_in : (last r : ℕ) → Last t (blocks_for n) (get_or t (768 + i / 256) 0) (i / 256) last → Stops t i (get_or t (768 + i / 256) 0) last r → closing_place s i / 256 ≡ r
-    stands_in last r w stops = omega (arith, lower (dec_lt (get_or t (768 + i / 256) 0) r), upper (dec_lt r last))
+    pub stands_in : (last r : ℕ) → Last t (blocks_for n) first (i / 256) last → Stops t i first last r → closing_place s i / 256 ≡ r
+    stands_in last r w stops = omega (arith, lower (dec_lt first r), upper (dec_lt r last))
       where
-        lower : Dec (get_or t (768 + i / 256) 0 < r) → r ≤ closing_place s i / 256
+        lower : Dec (first < r) → r ≤ closing_place s i / 256
         lower (yes y) =
             let e : r - 1 + 1 ≡ r = omega arith in
             omega (arith, behind (r - 1) (omega (arith, w.within, stops.high)) (rw e (stops.passed y)))
@@ -115,10 +116,3 @@ module _ {t : List ℕ} {s : List Paren} {n : ℕ} (own : Own t s n) where
       ∙ slot_end s (k - 1) (omega (arith, own.few))
       ∙ end_stands s n own.long (k - 1) (omega arith)
       ∙ ap (excess 0 s) e
-
-  -- so many closings there are before it
-  pub before_closings : (k r : ℕ) → Before t k r → k < blocks_for n → r + 2 * closings (take (256 * k) s) ≡ 256 * k
-  unfolding closings
-  before_closings zero r w l = omega (arith, w.first refl)
-  before_closings (suc k) r w l =
-      rw (w.right s n own (omega arith) l) (excess-closings s (256 * suc k) own.balance (omega arith) (omega (arith, own.long)))

@@ -7,9 +7,10 @@ use native.Mathlib.Nat.{le_refl, le_trans, le_of_lt, lt_of_lt_of_le}
 use native.Mathlib.Omega.{arith}
 use mathlib.Core.List.{List}
 use lib.Pow.{pow_pos}
+use Rattle.std.proofs.lemmas.Bool.{cases_lt}
 use Rattle.tree.specs.declared.Best.{Best}
 use Rattle.tree.specs.Tree.{at, leaf, Halves, Within, Held}
-use Rattle.tree.proofs.Nodes.{below, wider, node-lowest}
+use Rattle.tree.proofs.Nodes.{wider, node-lowest}
 
 -- among the leaves from f up to before e, of which there may be none
 pub record Lowest (t : List ℕ) (f e : ℕ) (b : Best) : Type 0 where
@@ -41,13 +42,13 @@ module _ {t : List ℕ} {f m e : ℕ} {L R : Best} (fm : f ≤ m) (me : m ≤ e)
       ⊎_elim
       (λ p. le_trans l (no_lower left H x from p))
       (λ p. le_trans r (no_lower right H x p upto))
-      (below (256 + x) m)
+      (cases_lt (256 + x) m)
 
   pub join_left : L.low ≤ R.low → Lowest t f e L
   join_left p =
       record {
         none = λ q. left.none (omega arith);
-        some = λ q. ⊎_elim held (λ a. absurd (omega (arith, left.none a, (right.some (omega arith)).bound))) (below f m);
+        some = λ q. ⊎_elim held (λ a. absurd (omega (arith, left.none a, (right.some (omega arith)).bound))) (cases_lt f m);
       }
     where
       held : f < m → Held t f e L
@@ -66,7 +67,7 @@ module _ {t : List ℕ} {f m e : ℕ} {L R : Best} (fm : f ≤ m) (me : m ≤ e)
   join_right p =
       record {
         none = λ q. right.none (omega arith);
-        some = λ q. ⊎_elim held (λ a. absurd (omega (arith, right.none a, (left.some (omega arith)).bound))) (below m e);
+        some = λ q. ⊎_elim held (λ a. absurd (omega (arith, right.none a, (left.some (omega arith)).bound))) (cases_lt m e);
       }
     where
       held : m < e → Held t f e R
@@ -82,5 +83,5 @@ module _ {t : List ℕ} {f m e : ℕ} {L R : Best} (fm : f ≤ m) (me : m ≤ e)
                 ⊎_elim
                 (λ q. lt_of_lt_of_le p (no_lower left H x from q))
                 (λ q. r.leftmost H x q upto)
-                (below (256 + x) m);
+                (cases_lt (256 + x) m);
           }

@@ -1,18 +1,19 @@
 -- The climb from two blocks to where they meet: the keys' smallest is the leftmost of the nodes passed with the smallest number.
 -- Assumes nothing.
-use mathlib.Core.Path.{◌≡◌, refl, ap, sym, subst, subst⁻¹, ◌∙◌}
+use mathlib.Core.Path.{◌≡◌, refl, ap, sym, ◌∙◌}
 use mathlib.Core.Logic.{⊎_elim}
 use Prim.Native.Nat.{ℕ, min, ◌+◌, ◌-◌, ◌*◌, ◌/◌, ◌%◌, ◌^◌, ◌≤◌, ◌<◌}
-use native.Mathlib.Nat.{le_trans, mul-le-mul_left, mul-le-mul_right, min-le_left, min-eq_left, min-eq_right, le_of_lt, pow-succ', div-eq_of_lt-le}
+use native.Mathlib.Nat.{le_trans, mul-le-mul_left, mul-le-mul_right, min-le_left, pow-succ', div-eq_of_lt-le}
 use native.Mathlib.Numerals.{add-one}
 use native.Mathlib.Omega.{arith}
 use mathlib.Core.List.{List}
 use lib.Pow.{pow_pos, pow_mono}
 use borrow.Author.Tests.{lt-ltb, le-ltb}
+use Rattle.std.proofs.lemmas.Bool.{cases_lt}
 use Rattle.tree.specs.declared.Best.{Best}
 use Rattle.tree.specs.Tree.{at, Within, Under, Between}
 use Rattle.tree.specs.Keys.{right_rank, right_level, left_key, right_key, left_of, right_of, best_of}
-use Rattle.tree.proofs.Nodes.{below, wider, parent}
+use Rattle.tree.proofs.Nodes.{wider, parent}
 use Rattle.tree.proofs.Beside.{Lowest, alone, join_left, join_right}
 
 pub best_left : (a b k : ℕ) → k % 16 < 8 → best_of a b k ≡ left_of a k
@@ -26,7 +27,7 @@ best_low a b k =
     ⊎_elim
     (λ p. ap (λ (x : Best). x.low) (best_left a b k p))
     (λ p. ap (λ (x : Best). x.low) (best_right a b k p))
-    (below (k % 16) 8)
+    (cases_lt (k % 16) 8)
 
 -- the smaller of two keys, the left one's rank not the greater
 join : {t : List ℕ} (a b k j : ℕ) {f m e : ℕ} → f ≤ m → m ≤ e → k % 16 ≤ j % 16
@@ -35,9 +36,9 @@ join {t} a b k j {f} {m} {e} fm me rank left right =
     let l = best_low a b k in
     let r = best_low a b j in
     ⊎_elim
-    (λ p. subst⁻¹ (λ (x : ℕ). Lowest t f e (best_of a b x)) (min-eq_right (le_of_lt p)) (join_right fm me left right (omega arith)))
-    (λ p. subst⁻¹ (λ (x : ℕ). Lowest t f e (best_of a b x)) (min-eq_left p) (join_left fm me left right (omega arith)))
-    (below j k)
+    (λ p. let e : min k j ≡ j = omega arith in rw e (join_right fm me left right (omega arith)))
+    (λ p. let e : min k j ≡ k = omega arith in rw e (join_left fm me left right (omega arith)))
+    (cases_lt j k)
 
 -- what the two leaves have passed below nodes l and r, h levels up. A rank is that of a level below h; at level 0 nothing is passed yet.
 pub record Climbing (t : List ℕ) (a b l r h best : ℕ) : Type 0 where
@@ -73,7 +74,7 @@ climb_starts t a b p =
 -- a node over a block stands eight levels above it at most
 level-bound : {v h x : ℕ} → Under v h x → x ≤ 255 → 1 ≤ v → h ≤ 8
 level-bound {v} {h} {x} u b p =
-    ⊎_elim (λ q. omega arith) (λ q. absurd (omega (arith, mul-le-mul_right (2 ^ h) p, pow_mono q, u.first))) (below h 9)
+    ⊎_elim (λ q. omega arith) (λ q. absurd (omega (arith, mul-le-mul_right (2 ^ h) p, pow_mono q, u.first))) (cases_lt h 9)
 
 -- under a node between the two stand only blocks between
 between : {a b l r h : ℕ} (v : ℕ) → Under l h a → Under r h b → l < v → v < r → Within v h (257 + a) (256 + b)
@@ -102,7 +103,7 @@ doubled q w h e = ap (λ (k : ℕ). q * 2 ^ k) (add-one h) ∙ rw (← e, pow-su
 
 carried : {t : List ℕ} {f f' e e' : ℕ} {b b' : Best} → f ≡ f' → e ≡ e' → b ≡ b' → Lowest t f' e' b' → Lowest t f e b
 carried {t} {f} {f'} {e} {e'} {b} {b'} p q s w =
-    subst⁻¹ (λ (x : ℕ). Lowest t x e b) p (subst⁻¹ (λ (x : ℕ). Lowest t f' x b) q (subst⁻¹ (λ (x : Best). Lowest t f' e' x) s w))
+    rw (p, q, s) w
 
 -- a node that is out stands for no leaf
 out : {t : List ℕ} {f e : ℕ} (a b k : ℕ) → e ≡ f → 1048576 ≤ k → Lowest t f e (best_of a b k)
@@ -128,7 +129,7 @@ module _ {a b l r h : ℕ} {t : List ℕ} (ua : Under l h a) (ub : Under r h b) 
       (passed_left a b l h (at t (l + 1)) (left_key t l h) ua (level_below l r ub last apart) (omega arith))
       (node (l + 1) (omega arith) (omega arith) (omega arith)))
       (λ (p : 1 ≤ l % 2). out a b (left_key t l h) (doubled (l / 2 + 1) (l + 1) h (omega arith)) (omega arith))
-      (below (l % 2) 1)
+      (cases_lt (l % 2) 1)
 
   pass_right : at t (r - r % 2) ≤ 65535 → Lowest t (r / 2 * 2 ^ (h + 1)) (r * 2 ^ h) (best_of a b (right_key t r h))
   pass_right small =
@@ -138,11 +139,11 @@ module _ {a b l r h : ℕ} {t : List ℕ} (ua : Under l h a) (ub : Under r h b) 
       let odd : r - r % 2 ≡ r - 1 = omega arith in
       let same : at t (r - r % 2) ≡ at t (r - 1) = ap (at t) odd in
       let next : r ≡ r - 1 + 1 = omega arith in
-      let under = subst (λ (w : ℕ). Under w h b) next ub in
+      let under = rw next at ub in
       carried (doubled (r / 2) (r - 1) h (omega arith)) (ap (λ (w : ℕ). w * 2 ^ h) next)
       (passed_right a b (r - 1) h (at t (r - 1)) (right_key t r h) under (level_below l r ub last apart) (omega arith))
       (node (r - 1) (omega arith) (omega arith) (omega arith)))
-      (below (r % 2) 1)
+      (cases_lt (r % 2) 1)
 
 -- the two stay in the tree
 pub record Inside (r h : ℕ) : Type 0 where
@@ -210,7 +211,7 @@ climb_next {t} {a} {b} {l} {r} {h} {k} last left right unmet c =
 pub climb_on : {t : List ℕ} {a b l r h k j : ℕ} → b ≤ 255 → at t (l + 1 - l % 2) ≤ 65535 → at t (r - r % 2) ≤ 65535 → (l / 2 ≡ r / 2 → ⊥)
     → j ≡ min k (min (left_key t l h) (right_key t r h)) → Climbing t a b l r h k → Climbing t a b (l / 2) (r / 2) (h + 1) j
 climb_on {t} {a} {b} {l} {r} {h} last left right unmet is c =
-    subst⁻¹ (Climbing t a b (l / 2) (r / 2) (h + 1)) is (climb_next last left right unmet c)
+    rw is (climb_next last left right unmet c)
 
 -- where they have met the two sides are the whole
 pub climb_ends : {t : List ℕ} {a b l r h k : ℕ} → b ≤ 255 → l / 2 ≡ r / 2 → Climbing t a b l r h k → Between t a b (best_of a b k)
@@ -221,8 +222,8 @@ climb_ends {t} {a} {b} {l} {r} {h} {k} last met c =
     let i = c.left_rank in
     let j = c.right_ranked in
     let from : 257 + a ≤ (l + 1) * 2 ^ h = omega (arith, c.over_a.last) in
-    let upto : (l + 1) * 2 ^ h ≤ 256 + b = subst (λ (w : ℕ). w * 2 ^ h ≤ 256 + b) next c.over_b.first in
-    let right = subst (λ (w : ℕ). Lowest t (w * 2 ^ h) (256 + b) (best_of a b c.right)) next c.on_right in
+    let upto : (l + 1) * 2 ^ h ≤ 256 + b = rw next at c.over_b.first in
+    let right = rw next at c.on_right in
     let both = join a b c.left c.right from upto (omega arith) c.on_left right in
-    let best = subst⁻¹ (λ (x : ℕ). Lowest t (257 + a) (256 + b) (best_of a b x)) c.lower both in
+    let best = rw (← c.lower) at both in
     record { none = λ e. omega (arith, best_low a b k, best.none (omega arith), c.bound); some = λ q. best.some (omega arith) }

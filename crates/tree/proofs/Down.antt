@@ -5,9 +5,9 @@ use mathlib.Core.Logic.{⊎_elim}
 use Prim.Native.Nat.{ℕ, ◌+◌, ◌*◌, ◌^◌, ◌≤◌, ◌<◌}
 use native.Mathlib.Omega.{arith}
 use mathlib.Core.List.{List}
+use Rattle.std.proofs.lemmas.Bool.{cases_lt}
 use Rattle.tree.specs.declared.Best.{Best}
 use Rattle.tree.specs.Tree.{leaf, Halves, Descended, Held}
-use Rattle.tree.proofs.Nodes.{below}
 
 pub record Leftmost (t : List ℕ) (a b low r : ℕ) : Type 0 where
   pub after : a < r
@@ -31,5 +31,5 @@ comes_down {t} {a} {b} {r} {best} held down =
           ⊎_elim
           (λ s. held.leftmost H x (omega arith) s)
           (λ s. omega (arith, same H, down.leftmost H x s q))
-          (below (256 + x) (best.node * 2 ^ best.level));
+          (cases_lt (256 + x) (best.node * 2 ^ best.level));
     }

@@ -1,6 +1,6 @@
 -- Where two blocks' leaves meet: the level from which on their numbers have the same bits, and the node there.
 -- Assumes nothing.
-use mathlib.Core.Path.{◌≡◌, ap, ap₂, sym, subst, subst⁻¹, ◌∙◌}
+use mathlib.Core.Path.{◌≡◌, ap, ap₂, sym, ◌∙◌}
 use mathlib.Core.Logic.{⊎_elim}
 use Prim.Native.Nat.{ℕ, ◌+◌, ◌-◌, ◌*◌, ◌/◌, ◌^◌, ◌≤◌, ◌<◌}
 use native.Mathlib.Nat.{lt_trans, mul-le-mul_right, div-eq_of_lt, div-mul-le_self, lt-div-mul-add}
@@ -10,8 +10,9 @@ use lib.Bits.{bit_xor, xor_shr, xor_self, xor_add_and, and_le_l, and_le_r}
 use lib.Count.{count_leading_zeros, leading_length}
 use lib.Dec.{lit<}
 use lib.Pow.{pow_pos, pow_mono, pow-add}
+use Rattle.std.proofs.lemmas.Bool.{cases_lt}
 use Rattle.tree.specs.Tree.{at, Within, Under, Over}
-use Rattle.tree.proofs.Nodes.{below, node-lowest}
+use Rattle.tree.proofs.Nodes.{node-lowest}
 
 xor_none : (x y : ℕ) → bit_xor x y ≡ 0 → x ≡ y
 xor_none x y e = omega (arith, xor_add_and x y, and_le_l x y, and_le_r x y)
@@ -38,9 +39,9 @@ meets a b p q =
     let length = leading_length 64 (bit_xor (256 + a) (256 + b)) (lt_trans x (lit< tt)) in
     let k = length.0 in
     let is : k ≡ meeting a b = omega (arith, length.1) in
-    let low : k ≤ 8 = ⊎_elim (λ s. omega arith) (λ s. absurd (omega (arith, pow_mono s, length.3))) (below k 9) in
+    let low : k ≤ 8 = ⊎_elim (λ s. omega arith) (λ s. absurd (omega (arith, pow_mono s, length.3))) (cases_lt k 9) in
     let node = xor_none ((256 + a) / 2 ^ k) ((256 + b) / 2 ^ k) (sym (xor_shr (256 + a) (256 + b) k) ∙ div-eq_of_lt length.2) in
-    subst (Meets a b) is (record { level = low; node = node })
+    rw (← is) (record { level = low; node = node })
 
 above : (k x : ℕ) → Under ((256 + x) / 2 ^ k) k x
 above k x =
@@ -57,12 +58,12 @@ in_tree {v} {h} {x} u p l =
           ⊎_elim
           (λ s. absurd (omega (arith, mul-le-mul_right (2 ^ h) s, u.last)))
           (λ s. omega (arith, mul-le-mul_right (2 ^ h) s))
-          (below v q);
+          (cases_lt v q);
       last =
           ⊎_elim
           (λ s. omega (arith, mul-le-mul_right (2 ^ h) s))
           (λ s. absurd (omega (arith, mul-le-mul_right (2 ^ h) s, u.first)))
-          (below v (2 * q));
+          (cases_lt v (2 * q));
     }
 
 -- the number of the node where they meet
@@ -71,7 +72,7 @@ pub over_both : {t : List ℕ} {r k : ℕ} (a b : ℕ) → a ≤ 255 → b ≤ 2
 over_both {t} {r} {k} a b p q m e n =
     let v = (256 + a) / 2 ^ k in
     let ua = above k a in
-    let ub = subst⁻¹ (λ (w : ℕ). Under w k b) m.node (above k b) in
+    let ub : Under v k b = rw m.node (above k b) in
     let w = in_tree ua p m.level in
     record {
       node = v;

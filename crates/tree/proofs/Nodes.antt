@@ -1,22 +1,15 @@
 -- Laws of the tree: a node's number is the smallest of its leaves', and what a search comes to from a half it comes to from the node.
 -- Assumes nothing.
-use mathlib.Core.Path.{◌≡◌, ap, subst, subst⁻¹}
+use mathlib.Core.Path.{◌≡◌, ap}
 use mathlib.Core.Logic.{◌⊎◌, inl, inr, ⊎_elim}
 use Prim.Native.Nat.{ℕ, zero, suc, min, ◌+◌, ◌-◌, ◌*◌, ◌/◌, ◌%◌, ◌^◌, ◌≤◌, ◌<◌}
 use native.Mathlib.Nat.{le_trans, le_of_eq, mul-le-mul_left, pow-succ', zero-mul}
-use native.Mathlib.Decide.{dec_lt}
 use native.Mathlib.Numerals.{add-one}
 use native.Mathlib.Omega.{arith}
 use mathlib.Core.List.{List}
 use lib.Pow.{pow_pos}
-use Rattle.tree.specs.Tree.{at, leaf, Halves, Within, Under, Descended}
-
-pub below : (x y : ℕ) → (x < y) ⊎ (y ≤ x)
-below x y = by (dec_lt x y)
-  where
-    by : Dec (x < y) → (x < y) ⊎ (y ≤ x)
-    by (yes p) = inl p
-    by (no p) = inr (omega arith)
+use Rattle.std.proofs.lemmas.Bool.{cases_lt}
+use Rattle.tree.specs.Tree.{at, leaf, Halves, Within, Under, Half, left, right, Descended}
 
 pub wider : {v h f f' e e' : ℕ} → f' ≤ f → e ≤ e' → Within v h f e → Within v h f' e'
 wider p q w = record { first = le_trans p w.first; last = le_trans w.last q }
@@ -47,17 +40,15 @@ under_half v h x u =
     ⊎_elim
     (λ here. inl (record { first = omega arith; last = here }))
     (λ there. inr (record { first = there; last = omega arith }))
-    (below (256 + x) ((2 * v + 1) * 2 ^ h))
+    (cases_lt (256 + x) ((2 * v + 1) * 2 ^ h))
 
 -- a node over a block has the block under its parent too, one level more
 parity : (v : ℕ) → (v ≡ 2 * (v / 2)) ⊎ (v ≡ 2 * (v / 2) + 1)
-parity v = ⊎_elim (λ p. inl (omega arith)) (λ p. inr (omega arith)) (below (v % 2) 1)
+parity v = ⊎_elim (λ p. inl (omega arith)) (λ p. inr (omega arith)) (cases_lt (v % 2) 1)
 
 pub parent : {v h x : ℕ} → Under v h x → Under (v / 2) (h + 1) x
 parent {v} {h} {x} u =
-    subst⁻¹ (λ (k : ℕ). Under (v / 2) k x) (add-one h)
-    (half_under (v / 2) h x
-    (⊎_elim (λ e. inl (subst (λ (w : ℕ). Under w h x) e u)) (λ e. inr (subst (λ (w : ℕ). Under w h x) e u)) (parity v)))
+    rw (add-one h) (half_under (v / 2) h x (⊎_elim (λ e. inl (rw e at u)) (λ e. inr (rw e at u)) (parity v)))
 
 -- a node above the leaves has halves, and the smaller of their numbers
 smaller : {t : List ℕ} → Halves t → (v h : ℕ) → Within v (suc h) 256 512 → at t v ≡ min (at t (2 * v)) (at t (2 * v + 1))
@@ -73,34 +64,34 @@ node-lowest {t} H (suc h) v {x} w u =
     (λ there. let l = node-lowest H h (2 * v + 1) (halves-within v h w).1 there in omega (arith, smaller H v h w))
     (under_half v h x u)
 
+-- a node above the leaves is none of them
+pub inner : {v k : ℕ} → (k ≡ 0 → ⊥) → Within v k 256 512 → v < 256
+inner {v} {k} n w =
+    let s : k ≡ suc (k - 1) = omega arith in
+    omega (arith, node_last (2 * v + 1) (k - 1) (halves-within v (k - 1) (rw s at w)).1)
+
 -- a leaf is where the search ends
 pub descend_leaf : (t : List ℕ) (v : ℕ) → 256 ≤ v → Descended t v 0 (v - 256)
 descend_leaf t v p =
     let e : 256 + (v - 256) ≡ v = omega arith in
     record { under = record { first = omega arith; last = omega arith }; lowest = λ _. ap (at t) e; leftmost = λ _ x f l. absurd (omega arith) }
 
--- the half to which it goes
-pub data Half (t : List ℕ) (v w : ℕ) : Type 0 where
-  left : w ≡ 2 * v → at t (2 * v) ≤ at t (2 * v + 1) → Half t v w
-  right : w ≡ 2 * v + 1 → at t (2 * v + 1) < at t (2 * v) → Half t v w
-
+-- the half to which it goes is in the tree too
 pub half_within : {t : List ℕ} {v w h k f e : ℕ} → Half t v w → k ≡ suc h → Within v k f e → Within w h f e
-half_within {t} {v} {w} {h} {k} {f} {e} (left is _) s i =
-    subst⁻¹ (λ (x : ℕ). Within x h f e) is (halves-within v h (subst (λ (x : ℕ). Within v x f e) s i)).0
-half_within {t} {v} {w} {h} {k} {f} {e} (right is _) s i =
-    subst⁻¹ (λ (x : ℕ). Within x h f e) is (halves-within v h (subst (λ (x : ℕ). Within v x f e) s i)).1
+half_within {t} {v} {w} {h} {k} {f} {e} (left is _) s i = rw is (halves-within v h (rw s at i)).0
+half_within {t} {v} {w} {h} {k} {f} {e} (right is _) s i = rw is (halves-within v h (rw s at i)).1
 
 -- the left half has the node's number where its own is not the greater; else the right half has it, and no leaf under the left half
 half_descended : {t : List ℕ} {v w r : ℕ} (h : ℕ) → Half t v w → Within v (suc h) 256 512 → Descended t w h r → Descended t v (suc h) r
 half_descended {t} {v} {w} {r} h (left is low) i down =
-    let d : Descended t (2 * v) h r = subst (λ (x : ℕ). Descended t x h r) is down in
+    let d = rw is at down in
     record {
       under = half_under v h r (inl d.under);
       lowest = λ H. let e = d.lowest H in omega (arith, smaller H v h i);
       leftmost = λ H x f l. d.leftmost H x (omega (arith, rw (pow-succ' 2 h) at f)) l;
     }
 half_descended {t} {v} {w} {r} h (right is high) i down =
-    let d : Descended t (2 * v + 1) h r = subst (λ (x : ℕ). Descended t x h r) is down in
+    let d = rw is at down in
     let u = half_under v h r (inr d.under) in
     record {
       under = u;
@@ -114,4 +105,4 @@ half_descended {t} {v} {w} {r} h (right is high) i down =
 
 pub descend_half : {t : List ℕ} {v w r h k : ℕ} → Half t v w → k ≡ suc h → Within v k 256 512 → Descended t w h r → Descended t v k r
 descend_half {t} {v} {w} {r} {h} {k} half s i d =
-    subst⁻¹ (λ (x : ℕ). Descended t v x r) s (half_descended h half (subst (λ (x : ℕ). Within v x 256 512) s i) d)
+    rw s (half_descended h half (rw s at i) d)

@@ -24,6 +24,11 @@ pub record Under (v h x : ℕ) : Type 0 where
   pub first : v * 2 ^ h ≤ 256 + x
   pub last : 256 + x < (v + 1) * 2 ^ h
 
+-- w is the half of node v with the smaller number, the left one where both have the same
+pub data Half (t : List ℕ) (v w : ℕ) : Type 0 where
+  left : w ≡ 2 * v → at t (2 * v) ≤ at t (2 * v + 1) → Half t v w
+  right : w ≡ 2 * v + 1 → at t (2 * v + 1) < at t (2 * v) → Half t v w
+
 -- block r, which the descent from node v, h levels above the leaves, comes to: under v, and the leftmost of those with v's number
 pub record Descended (t : List ℕ) (v h r : ℕ) : Type 0 where
   pub under : Under v h r

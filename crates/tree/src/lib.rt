@@ -5,10 +5,24 @@
 #![tactic(auto)]
 
 ghost use Rattle.std.specs.Prelude.{◌≡◌, ◌+◌, ◌-◌, ◌%◌, ◌≤◌, ◌<◌};
-ghost use Rattle.tree.specs.Tree.{at, Within, Descended, Between, Over};
+ghost use Rattle.tree.specs.Tree.{at, Within, Half, Descended, Between, Over};
 ghost use Rattle.tree.specs.Keys.{key_of, left_key, right_key, best_of};
 
 use slots::Summary;
+
+// The half of node v to which a search goes: the one with the smaller number, the left one where they tie.
+fn half(t: Summary<'_>, v: usize) -> usize
+    requires { v < 256 }
+    ensures { Half t.entry.numbers.now v result }
+{
+    let left = 2 * v;
+    let right = left + 1;
+    if t.node(left) <= t.node(right) {
+        left
+    } else {
+        right
+    }
+}
 
 // The block to which a search comes down from node v, which stands level levels above the leaves: the
 // leftmost of those with the node's number. It goes to one of the node's two halves, one level fewer
@@ -20,14 +34,7 @@ pub fn descend(t: Summary<'_>, v: usize, level: usize) -> usize
     if level == 0 {
         return v - 256;
     }
-    let left = 2 * v;
-    let right = left + 1;
-    let half = if t.node(left) <= t.node(right) {
-        left
-    } else {
-        right
-    };
-    descend(t, half, level - 1)
+    descend(t, half(t, v), level - 1)
 }
 
 // A node with the smallest number among some that stand side by side, the leftmost of them.

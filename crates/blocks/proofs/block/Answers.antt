@@ -11,7 +11,7 @@ returns-then-blocks-first c =
     record {
       strange = λ h. refl;
       within = λ h. absurd (omega arith);
-      right = λ s n own l e. absurd (omega (arith, not-strange own c.args.i l));
+      right = λ s n own l e. absurd (omega (arith, not-strange own c.args.i l _ c.block_of-first.ensures.0));
     }
 
 pub returns-then-not-passed : goal.returns-then-not-passed
@@ -20,7 +20,7 @@ returns-then-not-passed c =
       strange = λ h. absurd (omega arith);
       within = λ h. omega arith;
       right = λ s n own l e.
-          ap Some (sym (stands-near own c.args.i l c.passed.result c.passed-2.result c.passed-then-b-blocks.result _ (rw c.block_of-first.ensures.0 at c.passed.ensures) (rw c.block_of-first.ensures.0 at c.passed-2.ensures) (omega arith) (omega arith) c.passed-then-b-blocks.ensures c.if-not-passed.true));
+          ap Some (sym (stands-near own c.args.i l _ c.block_of-first.ensures.0 _ _ _ _ c.passed.ensures c.passed-2.ensures (omega arith) (omega arith) c.passed-then-b-blocks.ensures c.if-not-passed.true));
     }
 
 pub returns : goal.returns
@@ -29,5 +29,5 @@ returns c =
       strange = λ h. absurd (omega arith);
       within = λ h. omega (arith, c.last.ensures.within, c.search.ensures.high);
       right = λ s n own l e.
-          ap Some (sym (stands_in own c.args.i l _ _ (rw (e, c.block_of-first.ensures.0) at c.last.ensures) (rw c.block_of-first.ensures.0 at c.search.ensures)));
+          ap Some (sym (stands_in own c.args.i l _ c.block_of-first.ensures.0 _ _ (rw e at c.last.ensures) c.search.ensures));
     }

@@ -1,5 +1,5 @@
-// Where a closing stands among eight bits, with no loop and no table in memory: what there is to know of
-// four bits stands in the digits of a number.
+// Where a closing stands among eight bits, with no loop and no table in memory: the places in four bits
+// stand in the digits of two numbers.
 ghost use Rattle.std.specs.Prelude.{◌≡◌, ◌+◌, ◌≤◌, ◌<◌};
 ghost use Rattle.rules.specs.Excess.{closings, closing_place};
 ghost use Rattle.rules.specs.Bytes.{low_bits};
@@ -14,11 +14,18 @@ pub struct Narrow {
 }
 
 // The closings among the w lowest bits: those that are not set.
-pub fn count(bits: u64, w: u32) -> usize
+fn count(bits: u64, w: u32) -> usize
     requires { w < 64 }
     ensures { result ≡ closings (low_bits w bits) }
 {
     (w - (bits % (1 << w)).count_ones()) as usize
+}
+
+// The closings among the eight lowest bits.
+pub fn count_eight(bits: u64) -> usize
+    ensures { result ≡ closings (low_bits 8 bits) }
+{
+    count(bits, 8)
 }
 
 // Where closing number k of the four lowest bits v stands: half of digit v, the places of closings 0 and 1

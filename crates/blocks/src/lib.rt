@@ -27,7 +27,7 @@ fn rest(part: &[u8], k: usize) -> Option<usize>
             k: left,
             at: 8 * m,
         };
-        let c = byte::count(n.bits, 8);
+        let c = byte::count_eight(n.bits);
         if left < c {
             return Some(byte::nth(n));
         }

@@ -14,7 +14,7 @@ returns-then-left-c c =
 
 pub loop-m-preserved : goal.loop-m-preserved
 loop-m-preserved c =
-    rw c.count-c.ensures
+    rw c.count_eight-c.ensures
     (left_on c.loop-m.invariant (next_byte _ _ _ c.loop-m-test.true c.from.ensures) (omega arith))
 
 pub returns : goal.returns

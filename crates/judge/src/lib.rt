@@ -21,10 +21,19 @@ impl Judge {
         self.tally.count(holds);
     }
 
-    // A record that passes the check: what the check says; the stand-in, which is all that changes in the column;
-    // the record of that column, which is the record again; and an ask past the last entry. The lent buffers have
-    // room for more than these.
-    pub fn record<const ENTRIES: usize, const BYTES: usize>(&mut self, bytes: &[u8])
+    // A record of at most 200 entries that passes the check.
+    pub fn record(&mut self, bytes: &[u8]) {
+        self.record_in::<202, 56>(bytes);
+    }
+
+    // The same of one of any length.
+    pub fn long_record(&mut self, bytes: &[u8]) {
+        self.record_in::<32769, 8197>(bytes);
+    }
+
+    // What the check says; the stand-in, which is all that changes in the column; the record of that column, which is
+    // the record again; and an ask past the last entry. The lent buffers have room for more than these.
+    fn record_in<const ENTRIES: usize, const BYTES: usize>(&mut self, bytes: &[u8])
         requires { (ENTRIES < 65536) × (BYTES < 65536) }
     {
         let mut column = [8u32; ENTRIES];
@@ -71,7 +80,7 @@ impl Judge {
         self.seen.see(&said);
         self.count(checks::frame(bytes) == plain::frame(bytes));
         match said {
-            Ok(_) => self.record::<202, 56>(bytes),
+            Ok(_) => self.record(bytes),
             Err(refusal) => self.refused(bytes, refusal),
         }
     }

@@ -32,7 +32,7 @@ fn row(rt: &impl Print, name: &str, kind: Kind, n: usize) -> io::Result<()> {
     if let Ok(size) = said {
         let bytes = part::first(&out, size);
         judge.asks(column, bytes, n / 16);
-        judge.record::<32769, 8197>(bytes);
+        judge.long_record(bytes);
         ends(rt, bytes, n)?;
     }
     println!(rt; "; {judge}")

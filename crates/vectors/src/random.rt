@@ -16,7 +16,7 @@ fn column(columns: &mut Judge, asks: &mut Judge, column: &[u32]) {
     columns.count(lent::cleared(&work, column.len()));
     columns.count(out == like);
     let bytes = part::first(&out, size);
-    columns.record::<202, 56>(bytes);
+    columns.record(bytes);
     asks.asks(column, bytes, 0);
 }
 

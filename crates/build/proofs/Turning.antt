@@ -1,7 +1,7 @@
 -- The pass over the column, an entry a turn from the right: the stack is the left spine of the tree of the entries passed, and all of the
 -- tree's parentheses are written but the spine's openings. Assumes nothing.
 use mathlib.Core.Path.{◌≡◌, refl, ap, ◌∙◌}
-use Prim.Native.Nat.{ℕ, suc, ◌+◌, ◌-◌, ◌*◌, ◌/◌, ◌%◌, ◌≤◌, ◌<◌}
+use Prim.Native.Nat.{ℕ, suc, ◌+◌, ◌-◌, ◌*◌, ◌%◌, ◌≤◌, ◌<◌}
 use native.Mathlib.Nat.{sub_self, sub-zero, le_refl}
 use native.Mathlib.Numerals.{add-one}
 use native.Mathlib.Omega.{arith}
@@ -15,7 +15,9 @@ use Rattle.rules.specs.Bytes.{bits, bytes_of, bytes_for, record_length}
 use Rattle.theory.proofs.Tree.{Tree, push, tree_of, spine}
 use Rattle.theory.proofs.Spine.{rest, written-rest, kept, spine-push, rest-push, rises, Lies, lies_push, kept_is}
 use Rattle.theory.proofs.Ordered.{shape_tree}
+use Rattle.std.proofs.Common.{MutBor}
 use Rattle.build.specs.declared.pen.Pen.{Pen}
+use Rattle.build.specs.declared.spine.Spine.{Spine}
 use Rattle.build.specs.Body.{Taken, Bodied}
 use Rattle.build.specs.Stack.{entry_at, Stacked, Keeps}
 use Rattle.build.specs.Writes.{Penned, Ready, Writes}
@@ -23,21 +25,22 @@ use Rattle.build.proofs.Writing.{goes_on}
 
 -- the entries from i on had their turns: their tree's left spine is on the stack, and the rest of its parentheses is written. What is still
 -- to be written has room: an opening and a closing for each entry to come, and the openings of the spine.
-pub record Turned (c w₀ o₀ w o : List ℕ) (p : Pen) (h top i : ℕ) : Type 0 where
+pub record Turned (c w₀ o₀ : List ℕ) (p : Pen) (q : Spine) (i : ℕ) : Type 0 where
   pub taken : Taken c w₀ o₀
-  pub height : h ≡ spine (tree_of (drop i c))
-  pub low : h + i ≤ length c
-  pub lies : Lies (entry_at c w) (tree_of (drop i c))
-  pub stack : Stacked c w h top
-  pub penned : Penned (bytes_for (length c)) (drop (record_length (length c)) o₀) p o (rest (tree_of (drop i c)))
-  pub room : 8 * p.left ≡ p.held + (2 * i + h)
-  pub work : length w ≡ length w₀
-  pub output : length o ≡ length o₀
-  pub beyond : drop (length c) w ≡ drop (length c) w₀
+  pub height : q.height ≡ spine (tree_of (drop i c))
+  pub low : q.height + i ≤ length c
+  pub lies : Lies (entry_at c q.places.now) (tree_of (drop i c))
+  pub stack : Stacked c q
+  pub penned : Penned (bytes_for (length c)) (drop (record_length (length c)) o₀) p (rest (tree_of (drop i c)))
+  pub room : 8 * p.left ≡ p.held + (2 * i + q.height)
+  pub work : length q.places.now ≡ length w₀
+  pub output : length p.out.now ≡ length o₀
+  pub beyond : drop (length c) q.places.now ≡ drop (length c) w₀
 
-pub none_turned : {c w o : List ℕ} → Taken c w o → Turned c w o w o (record { left = (length c + 3) / 4; held = (8 - 2 * (length c % 4)) % 8; acc = 0 }) 0 0 (length c)
+pub none_turned : (c : List ℕ) (o w : MutBor (List ℕ)) (m : ℕ) → m ≡ bytes_for (length c) → Taken c w.now o.now
+    → Turned c w.now o.now (record { out = o; left = m; held = (8 - 2 * (length c % 4)) % 8; acc = 0 }) (record { places = w; height = 0; top = 0 }) (length c)
 unfolding tree_of spine rest Lies bits bytes_of
-none_turned {c} {w} {o} taken =
+none_turned c o w m is taken =
     record {
       taken = taken;
       height = rw drop-length;
@@ -48,7 +51,7 @@ none_turned {c} {w} {o} taken =
         few = omega arith;
         within = omega arith;
         holds = rw take-nil;
-        bytes = rw sub_self;
+        bytes = rw (is, sub_self);
       });
       room = omega arith;
       work = refl;
@@ -57,7 +60,7 @@ none_turned {c} {w} {o} taken =
     }
 
 -- what is still to be written has room, at the turn's beginning and within it
-pub ready : {c w₀ o₀ w o : List ℕ} {p : Pen} {h top i k : ℕ} → Turned c w₀ o₀ w o p h top i → k ≤ 2 * i + h → Ready p o k
+pub ready : {c w₀ o₀ : List ℕ} {p : Pen} {q : Spine} {i k : ℕ} → Turned c w₀ o₀ p q i → k ≤ 2 * i + q.height → Ready p k
 ready u le =
     record {
       m = _;
@@ -68,52 +71,52 @@ ready u le =
       fits = omega (arith, u.penned.within);
     }
 
-pub ready_after : {c w₀ o₀ w o o' : List ℕ} {a : List Paren} {p q : Pen} {h top i k : ℕ}
-    → Turned c w₀ o₀ w o p h top i → Writes a p o q o' → length a + k ≤ 2 * i + h → Ready q o' k
+pub ready_after : {c w₀ o₀ : List ℕ} {a : List Paren} {p p' : Pen} {q : Spine} {i k : ℕ}
+    → Turned c w₀ o₀ p q i → Writes a p p' → length a + k ≤ 2 * i + q.height → Ready p' k
 ready_after {a = a} {k = k} u w le = goes_on (ready {k = length a + k} u le) w (le_refl (length a + k))
 
 -- a turn: the tree gets one more entry
-pub one-turned : {c w₀ o₀ w o o' o'' : List ℕ} {p q q' : Pen} {h top i k : ℕ}
-    → Turned c w₀ o₀ w o p h top i → 0 < i → Keeps c w h (get_or c (i - 1) 0) k
-    → Writes (replicate (h - k) opening) p o q o' → Writes (closing ∷ []) q o' q' o'' → Turned c w₀ o₀ (set w k (i - 1)) o'' q' (k + 1) (get_or c (i - 1) 0) (i - 1)
+pub one-turned : {c w₀ o₀ : List ℕ} {p p' p'' : Pen} {q q' : Spine} {i k : ℕ}
+    → Turned c w₀ o₀ p q i → 0 < i → Keeps c q (get_or c (i - 1) 0) k → Writes (replicate (q.height - k) opening) p p' → Writes (closing ∷ []) p' p''
+    → q'.places.now ≡ set q.places.now k (i - 1) → q'.height ≡ k + 1 → q'.top ≡ get_or c (i - 1) 0 → Turned c w₀ o₀ p'' q' (i - 1)
 unfolding tree_of
-one-turned {c} {w₀} {o₀} {w} {o} {o'} {o''} {p} {q} {q'} {h} {top} {i} {k} u some keeps opened closed =
+one-turned {c} {w₀} {o₀} {p} {p'} {p''} {q} {q'} {i} {k} u some keeps opened closed stored higher top =
     let a : ℕ = get_or c (i - 1) 0 in
     let t : Tree = tree_of (drop i c) in
-    let w' : List ℕ = set w k (i - 1) in
+    let w : List ℕ = q.places.now in
     let next : suc (i - 1) ≡ i = omega arith in
     let tree : tree_of (drop (i - 1) c) ≡ push a t = rw (drop-cons c (i - 1) 0 (omega arith)) (ap (λ (n : ℕ). push a (tree_of (drop n c))) next) in
     let is : k ≡ kept a t = kept_is a 0 t (entry_at c w) k (rises (drop i c)) u.lies (omega (arith, u.height, keeps.within)) (λ j g l. keeps.popped j g (rw u.height l)) keeps.stays in
-    let new : get_or w' k 0 ≡ i - 1 = get_or-set_same w k (i - 1) 0 (omega arith) in
-    let old : (j : ℕ) → j < k → get_or w' j 0 ≡ get_or w j 0 = λ j l. get_or-set_other w k j (i - 1) 0 (omega arith) in
-    let run : length (replicate (h - k) opening) ≡ h - k = length-replicate (h - k) opening in
+    let new : get_or (set w k (i - 1)) k 0 ≡ i - 1 = get_or-set_same w k (i - 1) 0 (omega arith) in
+    let old : (j : ℕ) → j < k → get_or (set w k (i - 1)) j 0 ≡ get_or w j 0 = λ j l. get_or-set_other w k j (i - 1) 0 (omega arith) in
+    let run : length (replicate (q.height - k) opening) ≡ q.height - k = length-replicate (q.height - k) opening in
     record {
       taken = u.taken;
-      height = rw (tree, spine-push, ← is, add-one);
+      height = rw (higher, tree, spine-push, ← is, add-one);
       low = omega (arith, keeps.within, u.low);
-      lies = rw tree (lies_push a t (entry_at c w) (entry_at c w') u.lies (λ j l. ap (λ (n : ℕ). get_or c n 0) (old j (rw is l))) (rw (← is, new)));
+      lies = rw (stored, tree) (lies_push a t (entry_at c w) (entry_at c (set w k (i - 1))) u.lies (λ j l. ap (λ (n : ℕ). get_or c n 0) (old j (rw is l))) (rw (← is, new)));
       stack = record {
-        fits = rw length-set (omega (arith, keeps.within));
-        places = below_more _ k (λ j l. rw (old j l) (u.stack.places j (omega (arith, keeps.within)))) (rw new (omega arith));
-        last = λ j e. let at-k : j ≡ k = omega arith in rw (at-k, new);
+        fits = rw (higher, stored, length-set) (omega (arith, keeps.within));
+        places = rw (higher, stored) (below_more _ k (λ j l. rw (old j l) (u.stack.places j (omega (arith, keeps.within)))) (rw new (omega arith)));
+        last = λ j e. let at-k : j ≡ k = omega arith in rw (at-k, stored, top, new);
       };
       penned = rw (tree, rest-push, ← is, ← u.height) (closed.front (opened.front u.penned));
       room = omega (arith, opened.room, closed.room, u.room);
-      work = length-set w k (i - 1) ∙ u.work;
+      work = rw (stored, length-set w k (i - 1)) u.work;
       output = closed.same ∙ opened.same ∙ u.output;
-      beyond = drop-set-lt (length c) w k (i - 1) (omega (arith, keeps.within, u.low)) ∙ u.beyond;
+      beyond = rw (stored, drop-set-lt (length c) w k (i - 1) (omega (arith, keeps.within, u.low))) u.beyond;
     }
 
 -- the spine's openings make the parentheses whole
-pub all_turned : {c w₀ o₀ w o o' : List ℕ} {p q : Pen} {h top i : ℕ}
-    → Turned c w₀ o₀ w o p h top i → i ≤ 0 → Writes (replicate h opening) p o q o' → Bodied c w₀ o₀ w o'
-all_turned {c} {w₀} {o₀} {w} {o} {o'} {p} {q} {h} {top} {i} v le opened =
-    let u : Turned c w₀ o₀ w o p h top 0 = rw (le-zero le) at v in
-    let run : length (replicate h opening) ≡ h = length-replicate h opening in
-    let whole : Penned (bytes_for (length c)) (drop (record_length (length c)) o₀) q o' (replicate h opening ++ rest (tree_of c)) = opened.front u.penned in
-    let done : q.left ≡ 0 = omega arith in
-    let none : q.held ≡ 0 = omega arith in
+pub all_turned : {c w₀ o₀ w o : List ℕ} {p p' : Pen} {q : Spine} {i : ℕ}
+    → Turned c w₀ o₀ p q i → i ≤ 0 → Writes (replicate q.height opening) p p' → w ≡ q.places.now → o ≡ p'.out.now → Bodied c w₀ o₀ w o
+all_turned {c} {w₀} {o₀} {w} {o} {p} {p'} {q} {i} v le opened work output =
+    let u : Turned c w₀ o₀ p q 0 = rw (le-zero le) at v in
+    let run : length (replicate q.height opening) ≡ q.height = length-replicate q.height opening in
+    let whole : Penned (bytes_for (length c)) (drop (record_length (length c)) o₀) p' (replicate q.height opening ++ rest (tree_of c)) = opened.front u.penned in
+    let done : p'.left ≡ 0 = omega arith in
+    let none : p'.held ≡ 0 = omega arith in
     record {
-      body = rw (shape_tree, written-rest, ← u.height) (rw (done, none, sub-zero) at whole.bytes);
-      rest = u.beyond;
+      body = rw (output, shape_tree, written-rest, ← u.height) (rw (done, none, sub-zero) at whole.bytes);
+      rest = rw work u.beyond;
     }

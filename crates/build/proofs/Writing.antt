@@ -12,6 +12,7 @@ use lib.Pow.{pow_mono}
 use Rattle.rules.specs.Shape.{Paren, opening, closing}
 use Rattle.rules.specs.Bytes.{bit, bits, bytes_of}
 use Rattle.rules.proofs.Bits.{bits-opened, bits_below}
+use Rattle.std.proofs.Common.{MutBor}
 use Rattle.build.specs.declared.pen.Pen.{Pen}
 use Rattle.build.specs.Writes.{Ready, Writes}
 
@@ -20,16 +21,17 @@ pub record Adds (a : List Paren) (p : Pen) (v : ℕ) : Type 0 where
   pub is : (s : List Paren) → p.acc ≡ bits (take p.held s) → v ≡ bits (a ++ take p.held s)
 
 -- fewer than eight are held
-pub holds_more : (a : List Paren) (p : Pen) (o : List ℕ) (h v : ℕ) → length a + p.held ≡ h → h < 8 → Adds a p v → Writes a p o (record { left = p.left; held = h; acc = v }) o
-holds_more a p o h v e few adds =
+pub holds_more : (a : List Paren) (p : Pen) (o : MutBor (List ℕ)) (h v : ℕ) → o.now ≡ p.out.now → length a + p.held ≡ h → h < 8 → Adds a p v
+    → Writes a p (record { out = o; left = p.left; held = h; acc = v })
+holds_more a p o h v is e few adds =
     record {
       room = omega arith;
-      same = refl;
+      same = rw is;
       front = λ {m} {rest} {s} w. record {
         few = few;
         within = w.within;
         holds = rw (← e, take-append-add) (adds.is s w.holds);
-        bytes = rw (← e, drop-append-add) w.bytes;
+        bytes = rw (is, ← e, drop-append-add) w.bytes;
       };
     }
 
@@ -44,13 +46,13 @@ unfolding bytes_of
 byte a s h k e = rw (← e, take-append-add, drop-append-add)
 
 -- eight are held: the byte is stored, and the pen holds nothing
-pub stores : (a : List Paren) (p : Pen) (o : List ℕ) (v : ℕ) → length a + p.held ≡ 8 → 0 < p.left → 4 + p.left ≤ length o → Adds a p v
-    → Writes a p o (record { left = p.left - 1; held = 0; acc = 0 }) (set o (4 + (p.left - 1)) v)
+pub stores : (a : List Paren) (p : Pen) (o : MutBor (List ℕ)) (v : ℕ) → o.now ≡ set p.out.now (4 + (p.left - 1)) v → length a + p.held ≡ 8 → 0 < p.left
+    → 4 + p.left ≤ length p.out.now → Adds a p v → Writes a p (record { out = o; left = p.left - 1; held = 0; acc = 0 })
 unfolding bits
-stores a p o v e some fits adds =
+stores a p o v is e some fits adds =
     record {
       room = omega arith;
-      same = length-set o _ v;
+      same = rw is (length-set p.out.now _ v);
       front = λ {m} {rest} {s} w.
           let less : m - (p.left - 1) ≡ suc (m - p.left) = omega arith in
           let next : suc (4 + (p.left - 1)) ≡ 4 + p.left = omega arith in
@@ -58,7 +60,7 @@ stores a p o v e some fits adds =
             few = omega arith;
             within = omega (arith, w.within);
             holds = refl;
-            bytes = rw (drop_set o (4 + (p.left - 1)) v (omega arith), less, next, byte a s p.held (m - p.left) e, ← (adds.is s w.holds), w.bytes);
+            bytes = rw (is, drop_set p.out.now (4 + (p.left - 1)) v (omega arith), less, next, byte a s p.held (m - p.left) e, ← (adds.is s w.holds), w.bytes);
           };
     }
 
@@ -74,7 +76,7 @@ shifted s h k acc e le =
     rw is (mod-eq_of_lt (omega (arith, small (replicate k opening) s h few)))
 
 -- so nothing is lost in the shift or the cast
-pub shift_fits : {p : Pen} {o : List ℕ} {j : ℕ} → Ready p o j → (k : ℕ) → k + p.held ≤ 8
+pub shift_fits : {p : Pen} {j : ℕ} → Ready p j → (k : ℕ) → k + p.held ≤ 8
     → (p.acc < 256) × (1 ≤ ((p.acc + 1) * 2 ^ k) % 2 ^ 32) × (((p.acc + 1) * 2 ^ k) % 2 ^ 32 ≤ 256)
 shift_fits {p} r k le =
     let is = shifted r.s p.held k p.acc r.penned.holds le in
@@ -86,15 +88,15 @@ shift_fits {p} r k le =
 pub adds_opened : (p : Pen) (k : ℕ) → k + p.held ≤ 8 → Adds (replicate k opening) p (((p.acc + 1) * 2 ^ k) % 2 ^ 32 - 1)
 adds_opened p k le = record { is = λ s e. omega (arith, shifted s p.held k p.acc e le) }
 
-pub adds_closed : (p : Pen) → Adds (closing ∷ []) p (2 * p.acc)
+pub adds_closed : (p : Pen) → Adds (closing ∷ []) p (p.acc * 2)
 unfolding bits bit
 adds_closed p = record { is = λ s e. omega arith }
 
-pub adds_byte : {a : List Paren} {p : Pen} {o : List ℕ} {k v : ℕ} → Ready p o k → Adds a p v → length a + p.held ≤ 8 → v < 256
+pub adds_byte : {a : List Paren} {p : Pen} {k v : ℕ} → Ready p k → Adds a p v → length a + p.held ≤ 8 → v < 256
 adds_byte {a} {p} r adds le = rw (adds.is r.s r.penned.holds) (small a r.s p.held le)
 
 -- one run after another
-and_then : {a b : List Paren} {p q r : Pen} {o o' o'' : List ℕ} → Writes a p o q o' → Writes b q o' r o'' → Writes (b ++ a) p o r o''
+pub and_then : {a b : List Paren} {p q r : Pen} → Writes a p q → Writes b q r → Writes (b ++ a) p r
 and_then {a} {b} u v =
     record {
       room = omega (arith, u.room, v.room, length-append b a);
@@ -103,8 +105,8 @@ and_then {a} {b} u v =
     }
 
 -- what has room after a run
-pub goes_on : {a : List Paren} {p q : Pen} {o o' : List ℕ} {j k : ℕ} → Ready p o k → Writes a p o q o' → length a + j ≤ k → Ready q o' j
-goes_on {a} {p} {q} {o} {o'} r w le =
+pub goes_on : {a : List Paren} {p q : Pen} {j k : ℕ} → Ready p k → Writes a p q → length a + j ≤ k → Ready q j
+goes_on {a} {p} {q} r w le =
     record {
       m = r.m;
       rest = r.rest;
@@ -115,12 +117,12 @@ goes_on {a} {p} {q} {o} {o'} r w le =
     }
 
 -- part of a run of openings is written, the rest has room
-pub record Opening (count : ℕ) (p : Pen) (o : List ℕ) (more : ℕ) (q : Pen) (o' : List ℕ) : Type 0 where
+pub record Opening (count : ℕ) (p : Pen) (more : ℕ) (q : Pen) : Type 0 where
   pub fewer : more ≤ count
-  pub ready : Ready q o' more
-  pub writes : Writes (replicate (count - more) opening) p o q o'
+  pub ready : Ready q more
+  pub writes : Writes (replicate (count - more) opening) p q
 
-pub none_opened : {count : ℕ} {p : Pen} {o : List ℕ} → Ready p o count → Opening count p o count p o
+pub none_opened : {count : ℕ} {p : Pen} → Ready p count → Opening count p count p
 none_opened {count} r =
     record {
       fewer = omega arith;
@@ -128,8 +130,7 @@ none_opened {count} r =
       writes = rw sub_self (record { room = omega arith; same = refl; front = λ w. w });
     }
 
-pub more-opened : (j : ℕ) {count more i : ℕ} {p q q' : Pen} {o o' o'' : List ℕ} → Opening count p o more q o' → i + j ≡ more
-    → Writes (replicate j opening) q o' q' o'' → Opening count p o i q' o''
+pub more-opened : (j : ℕ) {count more i : ℕ} {p q q' : Pen} → Opening count p more q → i + j ≡ more → Writes (replicate j opening) q q' → Opening count p i q'
 more-opened j {count} {more} {i} u e w =
     let sum : j + (count - more) ≡ count - i = omega (arith, u.fewer) in
     record {
@@ -138,5 +139,5 @@ more-opened j {count} {more} {i} u e w =
       writes = rw (← sum, ← (replicate-append-replicate j (count - more) opening)) (and_then u.writes w);
     }
 
-pub all_opened : {count : ℕ} {p q : Pen} {o o' : List ℕ} → Opening count p o 0 q o' → Writes (replicate count opening) p o q o'
+pub all_opened : {count : ℕ} {p q : Pen} → Opening count p 0 q → Writes (replicate count opening) p q
 all_opened u = rw sub-zero at u.writes

@@ -1,58 +1,51 @@
 // The pen writes a body's parentheses from the last to the first, so each new one is the lowest bit so far.
-ghost use Rattle.std.specs.Prelude.{[], ◌∷◌, replicate};
+ghost use Rattle.std.specs.Prelude.{◌≡◌, [], ◌∷◌, replicate};
 ghost use Rattle.rules.specs.Shape.{opening, closing};
 ghost use Rattle.build.specs.Writes.{Ready, Writes};
 
-// `left` bytes of the body are still to come; `held` parentheses, fewer than eight, wait in `acc`.
-#[derive(Clone, Copy)]
-pub struct Pen {
+// `left` bytes of the body are still to come in the output; `held` parentheses, fewer than eight, wait in `acc`.
+#[derive(Drop)]
+pub struct Pen<'a> {
+    pub out: &'a mut [u8],
     pub left: usize,
     pub held: usize,
     pub acc: u32,
 }
 
-impl Pen {
+impl Pen<'_> {
     // A run of openings, with a step for each byte that it fills and none for each of its bits.
-    pub fn opens(self, out: &mut [u8], count: usize) -> Pen
-        requires { Ready self out.old count }
-        ensures { Writes (replicate count opening) self out.old result out.new }
+    #[inline(always)]
+    pub fn opens(&mut self, count: usize)
+        requires { Ready self.old count }
+        ensures lent { self.new.out.ghost_name ≡ self.old.out.ghost_name }
+        ensures writes { Writes (replicate count opening) self.old self.new }
     {
-        let mut left = self.left;
-        let mut held = self.held;
-        let mut acc = self.acc;
         let mut more = count;
-        while 8 - held <= more {
-            left -= 1;
-            out[4 + left] = (((acc + 1) << (8 - held)) - 1) as u8;
-            more -= 8 - held;
-            held = 0;
-            acc = 0;
+        while 8 - self.held <= more {
+            self.left -= 1;
+            self.out[4 + self.left] = (((self.acc + 1) << (8 - self.held)) - 1) as u8;
+            more -= 8 - self.held;
+            self.held = 0;
+            self.acc = 0;
         }
-        acc = ((acc + 1) << more) - 1;
-        held += more;
-        Pen { left, held, acc }
+        self.acc = ((self.acc + 1) << more) - 1;
+        self.held += more;
     }
 
     // One closing.
-    pub fn closes(self, out: &mut [u8]) -> Pen
-        requires { Ready self out.old 1 }
-        ensures { Writes (closing ∷ []) self out.old result out.new }
+    #[inline(always)]
+    pub fn closes(&mut self)
+        requires { Ready self.old 1 }
+        ensures lent { self.new.out.ghost_name ≡ self.old.out.ghost_name }
+        ensures writes { Writes (closing ∷ []) self.old self.new }
     {
-        let held = self.held + 1;
-        let acc = 2 * self.acc;
-        if held < 8 {
-            return Pen {
-                left: self.left,
-                held,
-                acc,
-            };
-        }
-        let left = self.left - 1;
-        out[4 + left] = acc as u8;
-        Pen {
-            left,
-            held: 0,
-            acc: 0,
+        self.held += 1;
+        self.acc *= 2;
+        if self.held == 8 {
+            self.left -= 1;
+            self.out[4 + self.left] = self.acc as u8;
+            self.held = 0;
+            self.acc = 0;
         }
     }
 }

@@ -1,9 +1,10 @@
--- `build::body` meets its contract: the invariant is `Turned`, an entry a turn, and the entries still to come fall. Assumes nothing.
+-- `build::body` meets its contract: the invariant is `Turned`, an entry a turn. Assumes nothing.
+use mathlib.Core.Path.{◌≡◌}
 use Rattle.build.proofs.Turning.{Turned}
 use Rattle.build.proofs.body.Given as goal
 
 abbrev pub invariant-loop-i : goal.invariant-loop-i
-invariant-loop-i l = Turned l.column l.initial.work l.initial.out l.work l.out l.pen l.h l.top l.i
-
-abbrev pub decreases-loop-i : goal.decreases-loop-i
-decreases-loop-i l = l.i
+invariant-loop-i l =
+    (l.pen.out.ghost_name ≡ l.initial.pen.out.ghost_name)
+    × (l.spine.places.ghost_name ≡ l.initial.spine.places.ghost_name)
+    × Turned l.column l.fn.work l.fn.out l.pen l.spine l.i

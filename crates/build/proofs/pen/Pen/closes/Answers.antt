@@ -1,16 +1,17 @@
 -- `build::Pen::closes` meets its contract: the closing is held, or fills the byte, which is stored. Assumes nothing.
+use mathlib.Core.Path.{refl}
 use native.Mathlib.Omega.{arith}
 use Rattle.build.proofs.Writing.{adds_closed, adds_byte, holds_more, stores}
 use Rattle.build.proofs.pen.Pen.closes.Goals as goal
 
-pub overflow_mul-acc : goal.overflow_mul-acc
-overflow_mul-acc c = omega (arith, adds_byte c.requires (adds_closed c.args.self) (omega arith))
+pub overflow_mul-self : goal.overflow_mul-self
+overflow_mul-self c = omega (arith, adds_byte c.requires (adds_closed c.args.self.now) (omega arith))
 
-pub returns-then-held-lt8 : goal.returns-then-held-lt8
-returns-then-held-lt8 c = holds_more _ _ _ _ _ (omega arith) (omega arith) (adds_closed c.args.self)
+pub overflow_cast-self : goal.overflow_cast-self
+overflow_cast-self c = omega (arith, adds_byte c.requires (adds_closed c.args.self.now) (omega arith))
 
-pub overflow_cast-out : goal.overflow_cast-out
-overflow_cast-out c = omega (arith, adds_byte c.requires (adds_closed c.args.self) (omega arith))
+pub returns-then-self-eq8-clause-writes : goal.returns-then-self-eq8-clause-writes
+returns-then-self-eq8-clause-writes c = stores _ _ _ _ refl (omega arith) (omega arith) (omega arith) (adds_closed c.args.self.now)
 
-pub returns : goal.returns
-returns c = stores _ _ _ _ (omega arith) (omega arith) (omega arith) (adds_closed c.args.self)
+pub returns-else-self-eq8-clause-writes : goal.returns-else-self-eq8-clause-writes
+returns-else-self-eq8-clause-writes c = holds_more _ _ _ _ _ refl (omega arith) (omega arith) (adds_closed c.args.self.now)

@@ -10,8 +10,8 @@ use mathlib.Core.Bool.{Bool, true, false, cond}
 use mathlib.Core.List.{List, ◌∷◌, ◌++◌}
 use borrow.Author.Tests.{lt-ltb}
 use lib.Dec.{ltb}
-use lib.ListN.{length, take, drop, get_or, replicate, get_or-append, get_or-eq_default}
-use lib.Seq.{drop-cons, drop-append-le, length-take-le, get_or-take}
+use lib.ListN.{length, take, drop, get_or, replicate, get_or-eq_default}
+use lib.Seq.{drop-cons, drop-append-le, length-take-le}
 use Rattle.rules.specs.Shape.{Paren, opening, closing}
 use Rattle.rules.specs.Bytes.{low_bits}
 use Rattle.rules.proofs.Bytes.{low_bits-length}
@@ -96,17 +96,7 @@ module _ (b k r : ℕ) (low : k ≤ 8) (made : low_bits 8 r ≡ take k (low_bits
   opened_behind st at x some e =
       undone st at (take k (low_bits 8 b)) (8 - k) x (some_least st at (take k (low_bits 8 b)) (rw front some)) (rw made at e)
 
-  -- where a scan can begin with a bit before k of the one, it can with that of the other
-  pub opened-begins : {at x e : ℕ} → x < k → Begins at b x e → Begins at r x e
-  opened-begins {at} {x} {e} l h =
-      record {
-        closes = rw (made, get_or-append (take k (low_bits 8 b)) (replicate (8 - k) opening) opening x (rw front l), get_or-take k (low_bits 8 b) x opening l) h.closes;
-        room = h.room;
-        high = h.high;
-        near = h.near;
-      }
-
-  -- and it comes to the same but for the openings behind
+  -- a scan that begins with a bit before k comes to the same but for the openings behind
   pub opened-within : (at x e : ℕ) (z : Scan) → x < k → z ≡ scan_of (begun e (at + x)) (at + x + 1) (drop (x + 1) (low_bits 8 r))
       → Undone (8 - k) z (scan_of (begun e (at + x)) (at + x + 1) (drop (x + 1) (take k (low_bits 8 b))))
   opened-within at x e z l f =

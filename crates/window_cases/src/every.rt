@@ -1,29 +1,14 @@
 // The document's column 4 2 4 2 9 with every window and every ask, up to two past the last entry.
-use crate::print;
-use shown::Line;
-use std::io;
+use crate::wanted::{Asks, Marked, Wanted};
+use shown::Hexes;
+use std::{array, io};
 
-// From entry i to each.
-fn row(rt: &impl Print, bytes: &[u8], first: usize, last: usize, i: usize) -> io::Result<()> {
-    let mut line = Line::new().form(b"  #..", &[i]);
-    for j in 0..7 {
-        line = print::ask(line, bytes, first, last, i, j);
-    }
-    print::show(rt, line.text(b"\n"))
-}
-
-fn window(rt: &impl Print, bytes: &[u8], first: usize, last: usize) -> io::Result<()> {
-    let line = print::window(Line::new(), bytes, first, last);
-    print::show(rt, line.text(b"\n"))?;
+// A window, and from each entry the asks to each.
+fn window(rt: &impl Print, window: Wanted) -> io::Result<()> {
+    println!(rt; "{window}")?;
     for i in 0..7 {
-        row(rt, bytes, first, last, i)?;
-    }
-    Ok(())
-}
-
-fn from(rt: &impl Print, bytes: &[u8], first: usize) -> io::Result<()> {
-    for last in 0..7 {
-        window(rt, bytes, first, last)?;
+        let to_each: [(usize, usize); 7] = array::from_fn(|j| (i, j));
+        println!(rt; "  {i}..{}", Asks(window, &to_each))?;
     }
     Ok(())
 }
@@ -31,11 +16,13 @@ fn from(rt: &impl Print, bytes: &[u8], first: usize) -> io::Result<()> {
 pub fn all(rt: &impl Print) -> io::Result<()> {
     let mut work = [7u16; 5];
     let mut out = [0xEEu8; 6];
-    let a = build::build(&[4, 2, 4, 2, 9], &mut work, &mut out);
-    let line = print::answer(Line::new().text(b"build"), a);
-    print::show(rt, line.text(b":").hexes(&out).text(b"\n"))?;
+    let built = build::build(&[4, 2, 4, 2, 9], &mut work, &mut out);
+    println!(rt; "build{}:{}", Marked(built), Hexes(&out))?;
     for first in 0..7 {
-        from(rt, &out, first)?;
+        for last in 0..7 {
+            let bytes = &out;
+            window(rt, Wanted { bytes, first, last })?;
+        }
     }
     Ok(())
 }

@@ -4,8 +4,8 @@
 
 mod every;
 mod long;
-mod print;
 mod refused;
+mod wanted;
 
 use std::io;
 

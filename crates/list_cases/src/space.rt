@@ -1,34 +1,35 @@
-// A drawer's bytes, put together from parts.
-ghost use Rattle.std.specs.Prelude.{◌≤◌, length};
+// The room that a drawer is put together in.
+ghost use Rattle.std.specs.Prelude.{◌≤◌};
 
-// The part behind the used bytes; what has no room is left out. It answers the new used length.
-fn copy(part: &[u8], drawer: &mut [u8], used: usize) -> usize
-    requires { used ≤ length drawer.old }
-    ensures { result ≤ length drawer.new }
-{
-    let mut at = used;
-    let mut k = 0;
-    while k < part.len() {
-        if drawer.len() <= at {
-            return at;
-        }
-        drawer[at] = part[k];
-        at += 1;
-        k += 1;
-    }
-    at
+// More bytes than a drawer may have, of which the first are used.
+#[derive(Drop)]
+pub struct Drawer {
+    space: [u8; 65600],
+    used: usize,
+    ghost within: { used ≤ 65600 },
 }
 
-// The same so many times.
-pub fn put(part: &[u8], times: usize, drawer: &mut [u8], used: usize) -> usize
-    requires { used ≤ length drawer.old }
-    ensures { result ≤ length drawer.new }
-{
-    let mut at = used;
-    let mut left = times;
-    while 0 < left {
-        at = copy(part, drawer, at);
-        left -= 1;
+impl Drawer {
+    pub fn new() -> Drawer {
+        Drawer {
+            space: [0; 65600],
+            used: 0,
+        }
     }
-    at
+
+    pub fn bytes(&self) -> &[u8] {
+        &self.space[..self.used]
+    }
+
+    pub fn clear(&mut self) {
+        self.used = 0;
+    }
+
+    // These bytes behind those used; what has no room is left out.
+    pub fn put(&mut self, bytes: &[u8]) {
+        let room = &mut self.space[self.used..];
+        let size = room.len().min(bytes.len());
+        room[..size].copy_from_slice(&bytes[..size]);
+        self.used += size;
+    }
 }

@@ -11,8 +11,7 @@ use Rattle.rules.specs.Bytes.{low_bits, paren}
 use Rattle.rules.proofs.Every.{all_below, below_at}
 use Rattle.words.proofs.Low.{low_bits_low}
 use Rattle.blocks.specs.Select.{joined, count_at}
-use Rattle.blocks.proofs.Bits.{closings_few}
-use Rattle.blocks.proofs.Lanes.{Few, joined_below, joined_same, joined_add, joined_sub, joined_and, joined_shr, byte_at, joined_bytes}
+use Rattle.blocks.proofs.Lanes.{Few, joined_same, joined_add, joined_sub, joined_and, joined_shr, byte_at, joined_bytes}
 
 -- ---- what is done to each byte
 
@@ -155,19 +154,8 @@ module _ (x : ℕ) (fits : x < 2 ^ 64) where
       halves fours-small fours-kept 0x0f (lit< tt) (lit< tt) (lit< tt)
       x 0x0f0f_0f0f_0f0f_0f0f 0xf0f0_f0f0_f0f0_f0f0 (by_fours x) refl refl fours_is
 
-  pub odd_fits : bit_and (flipped x) 0xaaaa_aaaa_aaaa_aaaa / 2 ≤ flipped x
-  odd_fits = omega (arith, and_le_l (flipped x) 0xaaaa_aaaa_aaaa_aaaa)
-
-  pub fours_fit : by_fours x < 2 ^ 64
-  fours_fit = rw fours_is (joined_below 8 (λ j. fours (byte_at x j)) (lanes fours fours-small x))
-
   pub counted : by_eights x ≡ joined 8 (count_at x)
   counted =
       eights_is
       ∙ joined_same 8 (λ j. eights (byte_at x j)) (count_at x)
       (λ j h. eights_right (byte_at x j) (omega arith) ∙ ap closings (low_bits_low 8 (x / 2 ^ (8 * j))))
-
-  pub counts_fit : by_eights x < 2 ^ 64
-  counts_fit =
-      let few : Few 8 255 (count_at x) = record { few = λ j h. let l = closings_few 8 (x / 2 ^ (8 * j)) in omega arith } in
-      rw counted (joined_below 8 (count_at x) few)

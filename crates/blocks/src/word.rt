@@ -10,7 +10,7 @@ use crate::byte::Narrow;
 fn counts(x: u64) -> u64
     ensures { result ≡ joined 8 (count_at x) }
 {
-    let y = 0xffff_ffff_ffff_ffff - x;
+    let y = !x;
     let a = y - ((y & 0xaaaa_aaaa_aaaa_aaaa) >> 1);
     let b = (a & 0x3333_3333_3333_3333) + ((a & 0xcccc_cccc_cccc_cccc) >> 2);
     (b & 0x0f0f_0f0f_0f0f_0f0f) + ((b & 0xf0f0_f0f0_f0f0_f0f0) >> 4)

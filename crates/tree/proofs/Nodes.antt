@@ -70,12 +70,6 @@ inner {v} {k} n w =
     let s : k ≡ suc (k - 1) = omega arith in
     omega (arith, node_last (2 * v + 1) (k - 1) (halves-within v (k - 1) (rw s at w)).1)
 
--- a leaf is where the search ends
-pub descend_leaf : (t : List ℕ) (v : ℕ) → 256 ≤ v → Descended t v 0 (v - 256)
-descend_leaf t v p =
-    let e : 256 + (v - 256) ≡ v = omega arith in
-    record { under = record { first = omega arith; last = omega arith }; lowest = λ _. ap (at t) e; leftmost = λ _ x f l. absurd (omega arith) }
-
 -- the half to which it goes is in the tree too
 pub half_within : {t : List ℕ} {v w h k f e : ℕ} → Half t v w → k ≡ suc h → Within v k f e → Within w h f e
 half_within {t} {v} {w} {h} {k} {f} {e} (left is _) s i = rw is (halves-within v h (rw s at i)).0

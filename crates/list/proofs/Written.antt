@@ -3,10 +3,11 @@
 use mathlib.Core.Path.{◌≡◌, refl, sym, ap, ◌∙◌}
 use Prim.Native.Nat.{ℕ}
 use mathlib.Core.List.{List, [], ◌∷◌, ◌++◌, append_assoc, append-nil, flatten}
-use Rattle.std.specs.Prelude.{Option, None, Some}
+use Rattle.std.specs.Prelude.{true, false, Option, None, Some}
+use Rattle.std.specs.Option.{is_some}
 use Rattle.std.specs.Io.KnownBytes.{Appends}
 use Rattle.listing.specs.declared.Rest.{Rest}
-use Rattle.listing.specs.Left.{lines_of, lines_left, first_line, other_lines, WritesLine}
+use Rattle.listing.specs.Left.{lines_left, first_line, other_lines, WritesLine}
 
 -- of a whole text the writer has all but what is left
 abbrev pub Gone : Option (List ℕ) → Option (List ℕ) → List ℕ → List ℕ → Type 0
@@ -29,13 +30,17 @@ unfolding flatten
 first_and_others [] = refl
 first_and_others (l ∷ ls) = refl
 
-pub one_more : (a b c : Option (List ℕ)) {d t whole : List ℕ} {from : Rest} {r : Option Rest}
-    → WritesLine d from r t → Gone a b (flatten (lines_of d from)) whole → Appends b c t → Gone a c (flatten (lines_left d r)) whole
+pub one_more : (a b c : Option (List ℕ)) {d t whole : List ℕ} {from : Option Rest} {r : Option Rest}
+    → WritesLine d from r t → Gone a b (flatten (lines_left d from)) whole → Appends b c t → Gone a c (flatten (lines_left d r)) whole
 one_more a b c {d} {t} {from = from} {r} w g k =
-    let both : t ++ flatten (lines_left d r) ≡ flatten (lines_of d from) = rw (w.text, w.lines) (sym (first_and_others (lines_of d from))) in
+    let both : t ++ flatten (lines_left d r) ≡ flatten (lines_left d from) = rw (w.text, w.lines) (sym (first_and_others (lines_left d from))) in
     (g.0 ++ t, appends_more a b c g.0 t g.1 k, append_assoc g.0 t (flatten (lines_left d r)) ∙ ap (λ x. g.0 ++ x) both ∙ g.2)
 
-pub no_more : (a b : Option (List ℕ)) {whole : List ℕ} → Gone a b [] whole → Appends a b whole
-no_more a b {whole = whole} g =
+-- where no line is left the writer has all
+pub no_more : (a b : Option (List ℕ)) (d : List ℕ) {whole : List ℕ} (rest : Option Rest) → false ≡ is_some rest → Gone a b (flatten (lines_left d rest)) whole
+    → Appends a b whole
+unfolding flatten
+no_more a b d {whole = whole} None h g =
     let is : g.0 ≡ whole = sym (append-nil g.0) ∙ g.2 in
     rw (sym is) g.1
+no_more a b d (Some from) h g = absurd (let x : false ≡ true = h in cc)

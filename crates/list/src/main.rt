@@ -14,8 +14,8 @@ fn write_lines<W: Write>(drawer: &[u8], out: &mut W) -> io::Result<()>
 {
     let mut line = Line::new();
     let mut rest = Some(listing::start(drawer));
-    while let Some(from) = rest {
-        rest = listing::next(drawer, from, &mut line);
+    while rest.is_some() {
+        rest = listing::next(drawer, rest, &mut line);
         out.write_all(line.text())?;
     }
     Ok(())

@@ -21,8 +21,8 @@ fn show(rt: &impl Print, text: &[u8]) -> io::Result<()> {
 pub fn listing(rt: &impl Print, drawer: &[u8]) -> io::Result<()> {
     let mut line = Line::new();
     let mut rest = Some(listing::start(drawer));
-    while let Some(from) = rest {
-        rest = listing::next(drawer, from, &mut line);
+    while rest.is_some() {
+        rest = listing::next(drawer, rest, &mut line);
         show(rt, line.text())?;
     }
     Ok(())

@@ -6,7 +6,7 @@ use native.Mathlib.Nat.{add-zero}
 use native.Mathlib.Omega.{arith}
 use mathlib.Core.List.{List, [], ◌∷◌}
 use borrow.Author.Tests.{lt-ltb, le-ltb}
-use Rattle.std.specs.Prelude.{Option, Some, None}
+use Rattle.std.specs.Prelude.{true, false, Option, Some, None, IsSome}
 use lib.ListN.{length, take, drop, length-drop, length-append, drop_of_length-le}
 use lib.Seq.{drop-drop}
 use Rattle.rules.specs.Bytes.{record_length}
@@ -72,15 +72,15 @@ module _ (d : List ℕ) (k at : ℕ) where
 
 -- a line that is the first of those left
 pub writes : {d t : List ℕ} {from : Rest} {r : Option Rest} {l : List ℕ} → lines_of d from ≡ l ∷ lines_left d r → rest_of d from ≡ r → t ≡ l
-    → WritesLine d from r t
+    → WritesLine d (Some from) r t
 writes e f g = record { text = rw e g; lines = rw e; value = sym f }
 
 -- the line of a record that stands there
 pub passes : {d t : List ℕ} {k : ℕ} (at : ℕ) → at < length d → k < most_records → (p l : ℕ) → seek d 0 at ≡ found p l
-    → t ≡ record_line k (take (p + l - p) (drop p d)) → WritesLine d (Lines k at) (Some (Lines (k + 1) (p + l))) t
+    → t ≡ record_line k (take (p + l - p) (drop p d)) → WritesLine d (Some (Lines k at)) (Some (Lines (k + 1) (p + l))) t
 passes {d} {t} {k} at h few p l e f = let s = stands d at p l e in by s.n s.framed s.here s.size
   where
-    by : (n : ℕ) → frame_says (drop at d) ≡ answer n → p ≡ at → l ≡ record_length n → WritesLine d (Lines k at) (Some (Lines (k + 1) (p + l))) t
+    by : (n : ℕ) → frame_says (drop at d) ≡ answer n → p ≡ at → l ≡ record_length n → WritesLine d (Some (Lines k at)) (Some (Lines (k + 1) (p + l))) t
     by n framed here size =
         let cut : p + l - p ≡ record_length n = omega arith in
         rw (here, size) (writes (left-more d k at h n few framed) (behind-record d k at h few framed) (f ∙ rw (cut, here)))
@@ -93,8 +93,9 @@ some_left d (End c) = omega arith
 some_left d Long = omega arith
 
 -- what a caller in a loop goes by: each line that is written is one fewer
-pub one_fewer : {d t : List ℕ} {from : Rest} {r : Option Rest} → WritesLine d from r t → length (lines_left d r) < length (lines_of d from)
-one_fewer {d} {from = from} w = rw w.lines (by (lines_of d from) (some_left d from))
+pub one_fewer : {d t : List ℕ} {r : Option Rest} (from : Option Rest) → IsSome from → WritesLine d from r t → length (lines_left d r) < length (lines_left d from)
+one_fewer None h w = let x : false ≡ true = h in cc
+one_fewer {d} (Some from) h w = rw w.lines (by (lines_of d from) (some_left d from))
   where
     by : (ls : List (List ℕ)) → 0 < length ls → length (other_lines ls) < length ls
     by [] h = absurd (omega arith)

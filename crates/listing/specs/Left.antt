@@ -45,6 +45,10 @@ rest_of d (Lines k at) = behind_line d k at
 rest_of d (End c) = None
 rest_of d Long = None
 
+abbrev pub rest_after : List ℕ → Option Rest → Option Rest
+rest_after d None = None
+rest_after d (Some from) = rest_of d from
+
 -- ---- the contracts
 
 -- nothing is written yet
@@ -52,8 +56,8 @@ pub record Starts (d : List ℕ) (r : Rest) : Type 0 where
   pub lines : lines_of d r ≡ listing_lines d
   pub value : r ≡ all_of d
 
--- the text is the first line that is left; the others are left then
-pub record WritesLine (d : List ℕ) (from : Rest) (r : Option Rest) (t : List ℕ) : Type 0 where
-  pub text : t ≡ first_line (lines_of d from)
-  pub lines : lines_left d r ≡ other_lines (lines_of d from)
-  pub value : r ≡ rest_of d from
+-- the text is the first line that is left, nothing where none was left; the others are left then
+pub record WritesLine (d : List ℕ) (from : Option Rest) (r : Option Rest) (t : List ℕ) : Type 0 where
+  pub text : t ≡ first_line (lines_left d from)
+  pub lines : lines_left d r ≡ other_lines (lines_left d from)
+  pub value : r ≡ rest_after d from

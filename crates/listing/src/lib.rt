@@ -35,7 +35,7 @@ pub fn start(drawer: &[u8]) -> Rest
 
 // The line of the record at a place, or the one that stops the listing, or the last line where the drawer ends.
 fn line_at(drawer: &[u8], k: u8, at: usize, line: &mut Line) -> Option<Rest>
-    ensures { WritesLine drawer.now (Rest.Lines k at) result line.new }
+    ensures { WritesLine drawer.now (Some (Rest.Lines k at)) result line.new }
 {
     let number = usize::from(k);
     if drawer.len() <= at {
@@ -61,11 +61,16 @@ fn line_at(drawer: &[u8], k: u8, at: usize, line: &mut Line) -> Option<Rest>
     }
 }
 
-// Writes the first of the lines that are left, over what the line had, and answers what is left behind it.
-pub fn next(drawer: &[u8], rest: Rest, line: &mut Line) -> Option<Rest>
+// Writes the first of the lines that are left, over what the line had, and answers what is left behind it. Where
+// nothing was left the line is empty.
+pub fn next(drawer: &[u8], rest: Option<Rest>, line: &mut Line) -> Option<Rest>
     ensures { WritesLine drawer.now rest result line.new }
 {
-    match rest {
+    let Some(from) = rest else {
+        line.clear();
+        return None;
+    };
+    match from {
         Rest::Lines(k, at) => line_at(drawer, k, at, line),
         Rest::End(count) => {
             lines::end(count, line);

@@ -24,7 +24,7 @@ use Rattle.rules.proofs.Listing.{listings}
 use Rattle.append.proofs.Drawers.{appending}
 use Rattle.listing.specs.declared.Rest.{Rest}
 use Rattle.listing.specs.declared.Rest.TheVariants.{Lines, End, Long}
-use Rattle.listing.specs.Left.{lines_of, lines_left, first_line, other_lines, all_of, behind_line, rest_of}
+use Rattle.listing.specs.Left.{lines_of, lines_left, first_line, other_lines, all_of, behind_line, rest_after}
 use Rattle.listing.proofs.Onward.{left_end, left-full, left-fault, left-more, behind_end, behind-full, behind-record}
 use Rattle.promises.specs.Listed.{Made, none, more, column_lines, calls, Listed}
 use Rattle.promises.proofs.Demand2.{column-accepted, column-parens}
@@ -122,10 +122,11 @@ appended b u cs made =
 
 -- ---- the calls of a run
 
-onward : (d : List ℕ) (from : Rest) → lines_left d (rest_of d from) ≡ other_lines (lines_of d from)
-onward d (End c) = refl
-onward d Long = refl
-onward d (Lines k at) = by (dec_lt at (length d)) (dec_lt k most_records) (frame_says (drop at d)) refl
+onward : (d : List ℕ) (from : Option Rest) → lines_left d (rest_after d from) ≡ other_lines (lines_left d from)
+onward d None = refl
+onward d (Some (End c)) = refl
+onward d (Some Long) = refl
+onward d (Some (Lines k at)) = by (dec_lt at (length d)) (dec_lt k most_records) (frame_says (drop at d)) refl
   where
     by : Dec (at < length d) → Dec (k < most_records) → (o : Outcome) → frame_says (drop at d) ≡ o
         → lines_left d (behind_line d k at) ≡ other_lines (lines_of d (Lines k at))
@@ -141,12 +142,11 @@ run zero d from h = by (lines_left d from) h
     by : (ls : List (List ℕ)) → length ls ≤ 0 → [] ≡ flatten ls
     by [] h = refl
     by (l ∷ ls) h = absurd (omega arith)
-run (suc m) d None h = refl
-run (suc m) d (Some from) h = by (lines_of d from) h (onward d from) (run m d (rest_of d from))
+run (suc m) d from h = by (lines_left d from) h (onward d from) (run m d (rest_after d from))
   where
-    by : (ls : List (List ℕ)) → length ls ≤ suc m → lines_left d (rest_of d from) ≡ other_lines ls
-        → (length (lines_left d (rest_of d from)) ≤ m → flatten (calls m d (rest_of d from)) ≡ flatten (lines_left d (rest_of d from)))
-        → first_line ls ++ flatten (calls m d (rest_of d from)) ≡ flatten ls
+    by : (ls : List (List ℕ)) → length ls ≤ suc m → lines_left d (rest_after d from) ≡ other_lines ls
+        → (length (lines_left d (rest_after d from)) ≤ m → flatten (calls m d (rest_after d from)) ≡ flatten (lines_left d (rest_after d from)))
+        → first_line ls ++ flatten (calls m d (rest_after d from)) ≡ flatten ls
     by [] h e next = next (rw e (omega arith)) ∙ rw e
     by (l ∷ ls) h e next = ap (λ x. l ++ x) (next (rw e (omega arith)) ∙ rw e)
 

@@ -1,13 +1,13 @@
 -- Document 01, "The listing": what its rule amounts to. A drawer made by appends lists one line per record, with the column's n and shape; the
 -- lines that the library writes one after the other are the listing; and no input allows two results.
-use Rattle.std.specs.Prelude.{◌≡◌, ℕ, zero, suc, ◌+◌, ◌≤◌, length, take, Option, Some, None}
+use Rattle.std.specs.Prelude.{◌≡◌, ℕ, zero, suc, ◌+◌, ◌≤◌, length, take, Option, Some}
 use mathlib.Core.List.{List, [], ◌∷◌, ◌++◌, flatten}
 use Rattle.rules.specs.Shape.{shape}
 use Rattle.rules.specs.Refusal.{answer}
 use Rattle.rules.specs.Drawer.{append_says, buffer_after}
 use Rattle.rules.specs.Listing.{shape_line, end_line, listing_lines, listing}
 use Rattle.listing.specs.declared.Rest.{Rest}
-use Rattle.listing.specs.Left.{lines_of, first_line, all_of, rest_of, Starts, WritesLine}
+use Rattle.listing.specs.Left.{lines_left, first_line, all_of, rest_after, Starts, WritesLine}
 
 -- A buffer with u used bytes into which the columns cs were appended, one after the other
 pub data Made : List ℕ → ℕ → List (List ℕ) → Type 0 where
@@ -20,11 +20,10 @@ unfoldable pub column_lines : ℕ → List (List ℕ) → List (List ℕ)
 column_lines k [] = []
 column_lines k (c ∷ cs) = shape_line k (length c) (shape c) ∷ column_lines (k + 1) cs
 
--- The lines that m calls write, one after the other, as long as a line is left
+-- What m calls write, one after the other
 unfoldable pub calls : ℕ → List ℕ → Option Rest → List (List ℕ)
 calls zero d from = []
-calls (suc m) d None = []
-calls (suc m) d (Some from) = first_line (lines_of d from) ∷ calls m d (rest_of d from)
+calls (suc m) d from = first_line (lines_left d from) ∷ calls m d (rest_after d from)
 
 pub record Listed : Type 0 where
   -- "end 0"
@@ -34,4 +33,4 @@ pub record Listed : Type 0 where
   pub whole : (d : List ℕ) (m : ℕ) → length (listing_lines d) ≤ m → flatten (calls m d (Some (all_of d))) ≡ listing d
   -- two results allowed for one input are equal
   pub start_once : (d : List ℕ) (x y : Rest) → Starts d x → Starts d y → x ≡ y
-  pub next_once : (d : List ℕ) (from : Rest) (s t : Option Rest) (x y : List ℕ) → WritesLine d from s x → WritesLine d from t y → (s ≡ t) × (x ≡ y)
+  pub next_once : (d : List ℕ) (from s t : Option Rest) (x y : List ℕ) → WritesLine d from s x → WritesLine d from t y → (s ≡ t) × (x ≡ y)

@@ -1,7 +1,7 @@
 -- Behind the frame: the checks in their order, by what the code's tests say, and the whole ask by what the frame has said.
 -- Assumes nothing.
 use mathlib.Core.Path.{◌≡◌, sym, ap, subst, subst⁻¹, ◌∙◌}
-use mathlib.Core.Logic.{◌⊎◌}
+use mathlib.Core.Logic.{◌⊎◌, ⊎_elim}
 use Prim.Native.Nat.{ℕ, ◌-◌, ◌≤◌, ◌<◌}
 use native.Mathlib.Omega.{arith}
 use mathlib.Core.List.{List}
@@ -80,11 +80,8 @@ module _ (r t : List ℕ) (n i j : ℕ) where
     summary-short h = refuses 3 (says-short whole h)
 
     module _ (room : slots ≤ length t) where
-      pub ask-crosses : j < i → Framed r t n i j (refusal 8)
-      ask-crosses h = refuses 8 (says-crossed whole room h)
-
-      pub ask-past : i ≤ j → n ≤ j → Framed r t n i j (refusal 8)
-      ask-past h l = refuses 8 (says_past whole room h l)
+      pub ask-outside : (j < i) ⊎ (i ≤ j × n ≤ j) → Framed r t n i j (refusal 8)
+      ask-outside = ⊎_elim (λ h. refuses 8 (says-crossed whole room h)) (λ h. refuses 8 (says_past whole room h.0 h.1))
 
       pub ask-inside : (lent : Lent) (o : Outcome) → body lent ≡ take (length r - 4) (drop 4 r) → numbers lent ≡ t → i ≤ j → j < n → Found lent n i j o → Framed r t n i j o
       ask-inside lent o behind beside h l found =

@@ -18,7 +18,7 @@ use Rattle.quick.specs.Quick.{parens_in}
 use Rattle.quick.specs.Stretch.{body, numbers, Asks, Finishes}
 use Rattle.quick.proofs.Beats.{split, beats_idle, low_join}
 use Rattle.quick.proofs.Ours.{leaf-bounds, halves_own, closing_low, closings-order, closing-height, counted}
-use Rattle.quick.proofs.Middle.{from, to, leaf-slot, middle}
+use Rattle.quick.proofs.Middle.{from, to, low_j, above_leaf, middle}
 
 module _ (s : Stretch) (n : ℕ) (asks : Asks s n) where
   abbrev bytes : List ℕ
@@ -39,9 +39,6 @@ module _ (s : Stretch) (n : ℕ) (asks : Asks s n) where
   low_i : at_i < 2 * n
   low_i = closing_low bytes t n asks.ours s.i among_i
 
-  low_j : at_j < 2 * n
-  low_j = closing_low bytes t n asks.ours s.j asks.among
-
   order : at_i ≤ at_j
   order = closings-order bytes t n asks.ours s.i s.j s.order asks.among
 
@@ -50,8 +47,7 @@ module _ (s : Stretch) (n : ℕ) (asks : Asks s n) where
   over_floor r over p g h =
       let f = asks.first in
       let u = asks.last in
-      let few = s.last.few in
-      omega (arith, over.lowest (halves_own bytes t n asks.ours) (p / 256) (omega arith) (omega arith), leaf-slot t (p / 256), leaf-bounds bytes t n asks.ours (p / 256) p (omega arith) (omega arith) (omega arith) (omega (arith, low_j)))
+      omega (arith, over.lowest (halves_own bytes t n asks.ours) (p / 256) (omega arith) (omega arith), above_leaf s n asks p (omega (arith, low_j s n asks)))
 
   module _ (first : Closing) (at : first.place ≡ at_i) (high : first.excess ≡ height bytes first.place) where
     -- the excess after closing i is as low as any
@@ -76,7 +72,7 @@ module _ (s : Stretch) (n : ℕ) (asks : Asks s n) where
           let f = asks.first in
           let few = s.last.few in
           let o = s.ordered in
-          omega (arith, leaf, leaf-bounds bytes t n asks.ours s.a p (omega arith) (omega arith) (omega arith) (omega (arith, low_j)))
+          omega (arith, leaf, leaf-bounds bytes t n asks.ours s.a p (omega arith) (omega arith) (omega arith) (omega (arith, low_j s n asks)))
 
       bounds : (c : ℕ) → c ≤ 256 * s.a + 256 → c ≤ at_j + 1 → Bounds bytes first.place c low
       bounds c h l p g u = leaf-floor c h l p (omega (arith, at)) u
@@ -129,4 +125,4 @@ module _ (s : Stretch) (n : ℕ) (asks : Asks s n) where
         let f = asks.first in
         let u = asks.last in
         let few = s.last.few in
-        omega (arith, leaf, leaf-bounds bytes t n asks.ours s.a p (omega arith) (omega arith) (omega arith) (omega (arith, low_j)))
+        omega (arith, leaf, leaf-bounds bytes t n asks.ours s.a p (omega arith) (omega arith) (omega arith) (omega (arith, low_j s n asks)))

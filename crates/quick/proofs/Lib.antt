@@ -1,3 +1,4 @@
+pub mod Foreign
 pub mod Beats
 pub mod Parts
 pub mod Closings

@@ -43,8 +43,14 @@ module _ (s : Stretch) (n : ℕ) (asks : Asks s n) where
   abbrev pub to : ℕ
   to = closing_in bytes n s.j
 
-  low_j : to < 2 * n
+  pub low_j : to < 2 * n
   low_j = closing_low bytes t n asks.ours s.j asks.among
+
+  -- no excess is below the leaf of its block
+  pub above_leaf : (p : ℕ) → p < 2 * n → ground_level + leaf t (p / 256) ≤ height bytes p
+  above_leaf p h =
+      let f = asks.ours.own.few in
+      omega (arith, leaf-slot t (p / 256), leaf-bounds bytes t n asks.ours (p / 256) p (omega arith) (omega arith) (omega arith) h)
 
   -- the lowest of all names the entry
   pub named : {st : Scan} {o : Outcome} → Names s st o → Lowest (height bytes) from (to + 1) st → Right s n o
@@ -61,8 +67,7 @@ module _ (s : Stretch) (n : ℕ) (asks : Asks s n) where
   middle best held p g h =
       let l = low_j in
       let e = asks.last in
-      let f = s.last.few in
-      omega (arith, held.lowest (halves_own bytes t n asks.ours) (p / 256) (omega arith) (omega arith), leaf-slot t (p / 256), leaf-bounds bytes t n asks.ours (p / 256) p (omega arith) (omega arith) (omega arith) (omega arith))
+      omega (arith, held.lowest (halves_own bytes t n asks.ours) (p / 256) (omega arith) (omega arith), above_leaf p (omega arith))
 
   module _ (best : Best) (held : Held t (257 + s.a) (256 + s.b) best) (order : s.a + 1 < s.b)
       (first : (p : ℕ) → from ≤ p → p < 256 * s.a + 256 → ground_level + best.low < height bytes p) where
@@ -139,9 +144,8 @@ module _ (s : Stretch) (n : ℕ) (asks : Asks s n) where
               let lj = low_j in
               let f = asks.last in
               let m = most.before in
-              let u = s.last.few in
               split p (256 * s.a + 256) (λ u. omega (arith, first p g u))
-              (λ u. omega (arith, most.leftmost (halves_own bytes t n asks.ours) (p / 256) (omega arith) (omega arith), leaf-slot t (p / 256), leaf-bounds bytes t n asks.ours (p / 256) p (omega arith) (omega arith) (omega arith) (omega arith)))
+              (λ u. omega (arith, most.leftmost (halves_own bytes t n asks.ours) (p / 256) (omega arith) (omega arith), above_leaf p (omega arith)))
 
           behind-it : inner.smallest ≡ 131072 + best.low → (p : ℕ) → 256 * k + 256 ≤ p → p < to + 1 → inner.smallest ≤ height bytes p
           behind-it is p g h =

@@ -16,6 +16,7 @@ use Rattle.rules.proofs.Bytes.{low_bits-length, all_bits-length, all_bits-append
 use Rattle.scan.specs.declared.Scan.{Scan}
 use Rattle.scan.specs.Scan.{scan_of}
 use Rattle.ask.specs.Byte.{begun}
+use Rattle.quick.specs.declared.part.Body.{Body}
 use Rattle.quick.specs.Lowest.{Lowest, Beats}
 use Rattle.quick.specs.Part.{ground_level, height, level, Runs, Bounds}
 use Rattle.quick.proofs.Beats.{beats_idle, beats-join, low_join, Scanned, scanned}
@@ -76,12 +77,15 @@ bits-within m bs x k h l n =
 
 -- ---- what is read
 
-module _ (body : List ℕ) (small : length body ≤ 8192) where
+module _ (self : Body) where
+  abbrev body : List ℕ
+  body = self.bytes.now
+
   long : length (all_bits body) ≡ 8 * length body
   long = all_bits-length body
 
   pub high : length (all_bits body) ≤ ground_level
-  high = omega (arith, long)
+  high = let f = self.few in omega (arith, long)
 
   -- k parentheses from place p on, in any state whose excess is the true one
   abbrev pub Reads : Scan → ℕ → ℕ → Scan → Type 0

@@ -17,6 +17,7 @@ use Rattle.rules.proofs.Blocks.{closing-from, closing_behind, in_part}
 use Rattle.scan.specs.declared.Scan.{Scan}
 use Rattle.scan.specs.Scan.{Ready, scan_of}
 use Rattle.scan.proofs.Laws.{ready_after, ready-fewer, scan_below}
+use Rattle.quick.specs.declared.part.Body.{Body}
 use Rattle.quick.specs.Lowest.{Beats}
 use Rattle.quick.specs.Part.{ground_level, height, level, end_of, EndsIn, Reaches}
 use Rattle.quick.proofs.Beats.{beats_none, beats_idle, beats-join}
@@ -48,12 +49,16 @@ module _ (here : Scan) (at b j : ℕ) where
 -- ---- the bytes before it
 
 -- how many closings there are before place p, by the excess there
-level-counts : (body : List ℕ) → length body ≤ 8192 → (p : ℕ) → p ≤ 8 * length body → level body p + 2 * closings (take p (all_bits body)) ≡ ground_level + p
-level-counts body small p h =
-    let l : length (take p (all_bits body)) ≡ p = length-take-le p (all_bits body) (omega (arith, all_bits-length body)) in
-    omega (arith, counts-length (take p (all_bits body)))
+level-counts : (self : Body) (p : ℕ) → p ≤ 8 * length self.bytes.now → level self.bytes.now p + 2 * closings (take p (all_bits self.bytes.now)) ≡ ground_level + p
+level-counts self p h =
+    let f = self.few in
+    let l : length (take p (all_bits self.bytes.now)) ≡ p = length-take-le p (all_bits self.bytes.now) (omega (arith, all_bits-length self.bytes.now)) in
+    omega (arith, counts-length (take p (all_bits self.bytes.now)))
 
-module _ (body : List ℕ) (k j : ℕ) (st : Scan) where
+module _ (self : Body) (k j : ℕ) (st : Scan) where
+  abbrev body : List ℕ
+  body = self.bytes.now
+
   -- the place of closing j
   abbrev pub at_j : ℕ
   at_j = closing_place (all_bits body) j
@@ -131,11 +136,11 @@ module _ (body : List ℕ) (k j : ℕ) (st : Scan) where
       room = ready-fewer here 8 _ (omega arith) walk.ready
 
       -- c of its bits
-      some_read : (small : length body ≤ 8192) (c : ℕ) (r : Scan) → c ≤ 8 → here.excess ≡ level body (8 * m) → r ≡ scan_of here (8 * m) (take c (low_bits 8 (get_or body m 0)))
-          → Reads body small here (8 * m) c r
-      some_read small c r h e is =
+      some_read : (c : ℕ) (r : Scan) → c ≤ 8 → here.excess ≡ level body (8 * m) → r ≡ scan_of here (8 * m) (take c (low_bits 8 (get_or body m 0)))
+          → Reads self here (8 * m) c r
+      some_read c r h e is =
           let g : 8 * m + 0 ≡ 8 * m = omega arith in
-          reads body small here (8 * m) c (omega arith) e
+          reads self here (8 * m) c (omega arith) e
           (is ∙ ap (scan_of here (8 * m)) (bits_some m body 0 c (omega arith) (omega arith) ∙ ap (λ (p : ℕ). take c (drop p (all_bits body))) g))
 
       module _ (next : Scan) (is : next ≡ scan_of here (8 * m) (low_bits 8 (get_or body m 0))) where
@@ -145,14 +150,14 @@ module _ (body : List ℕ) (k j : ℕ) (st : Scan) where
             (ready_after here (8 * m) (8 * (32 * k + 32 - (m + 1))) (low_bits 8 (get_or body m 0))
             (ready-fewer here _ _ (omega (arith, low_bits-length 8 (get_or body m 0))) walk.ready))
 
-        byte-read : (small : length body ≤ 8192) → here.excess ≡ level body (8 * m) → Reads body small here (8 * m) 8 next
-        byte-read small e =
+        byte-read : here.excess ≡ level body (8 * m) → Reads self here (8 * m) 8 next
+        byte-read e =
             let b = low_bits 8 (get_or body m 0) in
-            some_read small 8 next (le_refl 8) e (is ∙ ap (scan_of here (8 * m)) (sym (take_all 8 b (omega (arith, low_bits-length 8 (get_or body m 0))))))
+            some_read 8 next (le_refl 8) e (is ∙ ap (scan_of here (8 * m)) (sym (take_all 8 b (omega (arith, low_bits-length 8 (get_or body m 0))))))
 
         -- no more than j closings stand before the next one
-        pub walks-on : length body ≤ 8192 → 8 * m + 8 + ground_level < 2 * j + 2 + next.excess → Walks (m + 1) next
-        walks-on small few =
+        pub walks-on : 8 * m + 8 + ground_level < 2 * j + 2 + next.excess → Walks (m + 1) next
+        walks-on few =
             record {
               from = omega (arith, walk.from);
               upto = omega arith;
@@ -160,11 +165,11 @@ module _ (body : List ℕ) (k j : ℕ) (st : Scan) where
               bound = le_trans (rw is (scan_below here (8 * m) (low_bits 8 (get_or body m 0)))) walk.bound;
               right = λ s.
                   let read = walk.right s in
-                  let on = byte-read small read.level-now in
+                  let on = byte-read read.level-now in
                   let e : 8 * m + 8 ≡ 8 * (m + 1) = omega arith in
                   let now : next.excess ≡ level body (8 * (m + 1)) = on.level-now ∙ ap (level body) e in
                   let f = walk.from in
-                  let counts = level-counts body small (8 * (m + 1)) (omega arith) in
+                  let counts = level-counts self (8 * (m + 1)) (omega arith) in
                   record {
                     level-now = now;
                     beats = beats-join (height body) read.beats (rw e at on.beats) (omega arith) (omega arith);
@@ -173,8 +178,8 @@ module _ (body : List ℕ) (k j : ℕ) (st : Scan) where
             }
 
         -- more than j do: the closing stands in this byte
-        pub reach-found : length body ≤ 8192 → (stop : ℕ) (r : Scan) → 2 * j + 2 + next.excess ≤ 8 * m + 8 + ground_level → EndsIn here (8 * m) (get_or body m 0) j r → Reaches body k j st stop r
-        reach-found small stop r more ends =
+        pub reach-found : (stop : ℕ) (r : Scan) → 2 * j + 2 + next.excess ≤ 8 * m + 8 + ground_level → EndsIn here (8 * m) (get_or body m 0) j r → Reaches body k j st stop r
+        reach-found stop r more ends =
             record {
               bound = le_trans ends.bound walk.bound;
               right = λ among there. record { bound = le_trans ends.bound walk.bound; right = λ true bounds. through (record { among = among; there = there; level_first = true }) };
@@ -186,10 +191,10 @@ module _ (body : List ℕ) (k j : ℕ) (st : Scan) where
                 let u = all_bits body in
                 let b = low_bits 8 (get_or body m 0) in
                 let i = j - closings (take (8 * m) u) in
-                let before = level-counts body small (8 * m) (omega arith) in
-                let behind = level-counts body small (8 * m + 8) (omega arith) in
+                let before = level-counts self (8 * m) (omega arith) in
+                let behind = level-counts self (8 * m + 8) (omega arith) in
                 let now = read.level-now in
-                let then = (byte-read small now).level-now in
+                let then = (byte-read now).level-now in
                 let passed : closings (take (8 * m) u) ≤ j = closing-from u j (8 * m) s.among read.ahead in
                 let here_in = in_part u (8 * m) 8 j passed (omega arith) in
                 let same : b ≡ take 8 (drop (8 * m) u) = bits-byte m body (omega arith) in
@@ -200,4 +205,4 @@ module _ (body : List ℕ) (k j : ℕ) (st : Scan) where
                 let is-r : r ≡ scan_of here (8 * m) (take (x + 1) b) = ends.right i (omega arith) among in
                 let end : 8 * m + (x + 1) ≡ at_j + 1 = omega arith in
                 let f = walk.from in
-                beats-join (height body) read.beats (rw end at (some_read small (x + 1) r (omega arith) now is-r).beats) (omega arith) (omega arith)
+                beats-join (height body) read.beats (rw end at (some_read (x + 1) r (omega arith) now is-r).beats) (omega arith) (omega arith)

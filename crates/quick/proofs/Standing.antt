@@ -131,14 +131,14 @@ abbrev pub placed : ℕ → Option ℕ → Answer
 placed k None = Err Foreign
 placed k (Some x) = Ok (256 * k + x)
 
-module _ (lent : Lent) (k i : ℕ) (block : Block (body lent) k) (e : ℕ) (before : Before (numbers lent) k e) where
+module _ (lent : Lent) (k i e : ℕ) (before : Before (numbers lent) k e) where
   pub not_there : 2 * i + e < 256 * k → Stands lent k i (Err Foreign)
   not_there h =
       record { there = tt; nine = refl; right = λ n ours among at. omega (arith, not_before (body lent) (numbers lent) n k i ours among at e before, h) }
 
-  pub stands_there : (end : ℕ) → end ≡ end_of (body lent) k → (r : Option ℕ) → Selects (all_bits (take (end - 32 * k) (drop (32 * k) (body lent)))) ((2 * i + e - 256 * k) / 2) r
-      → Stands lent k i (placed k r)
-  stands_there end is r found = by r (rw is at found)
+  pub stands_there : Block (body lent) k → (twice : ℕ) → twice ≡ 2 * i + e - 256 * k → (end : ℕ) → end ≡ end_of (body lent) k → (r : Option ℕ)
+      → Selects (all_bits (take (end - 32 * k) (drop (32 * k) (body lent)))) (twice / 2) r → Stands lent k i (placed k r)
+  stands_there block twice less end is r found = by r (rw (less, is) at found)
     where
       by : (r : Option ℕ) → Selects (all_bits (take (end_of (body lent) k - 32 * k) (drop (32 * k) (body lent)))) ((2 * i + e - 256 * k) / 2) r → Stands lent k i (placed k r)
       by None found =

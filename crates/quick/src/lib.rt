@@ -59,13 +59,11 @@ impl<'a> Lent<'a> {
         ensures { Stands self.now k i result }
     {
         let e = self.before(k);
-        if 2 * i + e < 256 * k {
-            return Err(Refusal::Foreign);
-        }
+        let twice = (2 * i + e).checked_sub(256 * k).ok_or(Refusal::Foreign)?;
         let from = 32 * k;
         let end = self.body.end_of(k);
         let bits = &self.body.bytes[from..end];
-        let x = blocks::select(bits, (2 * i + e - 256 * k) / 2).ok_or(Refusal::Foreign)?;
+        let x = blocks::select(bits, twice / 2).ok_or(Refusal::Foreign)?;
         Ok(256 * k + x)
     }
 
@@ -118,14 +116,9 @@ impl<'a> Stretch<'a> {
             return Err(Refusal::Foreign);
         }
         let up = end.place + 1 + GROUND;
-        if up < end.smallest + 2 {
-            return Err(Refusal::Foreign);
-        }
-        let q = (up - end.smallest) / 2 - 1;
-        if q < self.i {
-            return Err(Refusal::Foreign);
-        }
-        if self.j < q {
+        let twice = up.checked_sub(end.smallest + 2).ok_or(Refusal::Foreign)?;
+        let q = twice / 2;
+        if q < self.i || self.j < q {
             return Err(Refusal::Foreign);
         }
         Ok(q)
@@ -261,10 +254,7 @@ fn framed<'a>(
     if numbers.len() < 896 {
         return Err(Refusal::WorkShort);
     }
-    if j < i {
-        return Err(Refusal::OutOfRange);
-    }
-    if n <= j {
+    if j < i || n <= j {
         return Err(Refusal::OutOfRange);
     }
     let lent = Lent {

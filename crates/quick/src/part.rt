@@ -28,19 +28,18 @@ fn run(st: Scan, part: &[u8], at: usize, stop: usize) -> Scan
 
 // Byte b, whose first bit stands at place at, up to closing number j of the body. Where the excess is no true
 // one, so that the closing is not in this byte, nothing of it.
+#[tactic(auto, using(crate::proofs::Reaching::place_low))]
 fn last(here: Scan, at: usize, b: u8, j: usize) -> Scan
     requires { Ready here 8 × (at ≤ 65536) × (j < 32768) }
     ensures { EndsIn here at b j result }
 {
-    // Before the byte stand (base - excess) / 2 closings.
-    let base = at + GROUND;
-    let up = 2 * j + here.excess;
-    if up < base {
+    // Before the byte stand (at + GROUND - excess) / 2 closings.
+    let Some(twice) = (2 * j + here.excess).checked_sub(at + GROUND) else {
         return here;
-    }
+    };
     let n = Narrow {
-        bits: b as u64,
-        k: (up - base) / 2,
+        bits: u64::from(b),
+        k: twice / 2,
         at: 0,
     };
     if blocks::byte::count_eight(n.bits) <= n.k {

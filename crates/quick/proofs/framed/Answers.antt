@@ -2,13 +2,11 @@
 -- Assumes nothing.
 use mathlib.Core.Path.{refl}
 use Rattle.answers.specs.Said.{said}
-use Rattle.quick.proofs.Framing.{bytes_after, summary-short, ask-crosses, ask-past, ask-inside}
+use Rattle.quick.proofs.Framing.{bytes_after, summary-short, ask-outside, ask-inside}
 use Rattle.quick.proofs.framed.Goals as goal
 
 pub returns-then-n-bytes : goal.returns-then-n-bytes
-returns-then-n-bytes c =
-    let a = c.args in
-    bytes_after a.bytes.now a.numbers.now a.n a.i a.j c.if-n-bytes.true
+returns-then-n-bytes c = let a = c.args in bytes_after a.bytes.now a.numbers.now a.n a.i a.j c.if-n-bytes.true
 
 pub returns-then-numbers-lt896 : goal.returns-then-numbers-lt896
 returns-then-numbers-lt896 c =
@@ -18,12 +16,7 @@ returns-then-numbers-lt896 c =
 pub returns-then-j-i : goal.returns-then-j-i
 returns-then-j-i c =
     let a = c.args in
-    ask-crosses a.bytes.now a.numbers.now a.n a.i a.j c.if-n-bytes.false c.if-numbers-lt896.false c.if-j-i.true
-
-pub returns-then-n-j : goal.returns-then-n-j
-returns-then-n-j c =
-    let a = c.args in
-    ask-past a.bytes.now a.numbers.now a.n a.i a.j c.if-n-bytes.false c.if-numbers-lt896.false c.if-j-i.false c.if-n-j.true
+    ask-outside a.bytes.now a.numbers.now a.n a.i a.j c.if-n-bytes.false c.if-numbers-lt896.false c.then-j-i.either
 
 pub returns : goal.returns
 returns c =

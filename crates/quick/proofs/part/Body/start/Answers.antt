@@ -4,6 +4,4 @@ use Rattle.quick.proofs.Closings.{begins}
 use Rattle.quick.proofs.part.Body.start.Goals as goal
 
 pub invariant_of-result : goal.invariant_of-result
-invariant_of-result c =
-    let a = c.args in
-    record { begins = begins a.self.bytes.now a.self.few a.from.place a.from.excess c.requires.0 c.requires.1 a.from.near }
+invariant_of-result c = record { begins = begins c.args.self c.args.from c.requires.0 c.requires.1 }

@@ -4,4 +4,4 @@ use Rattle.quick.proofs.Reaching.{Walks}
 use Rattle.quick.proofs.part.Body.upto.Given as goal
 
 abbrev pub invariant-loop-m : goal.invariant-loop-m
-invariant-loop-m l = Walks l.fn.self.bytes.now l.k l.j l.initial.here l.m l.here
+invariant-loop-m l = Walks l.fn.self l.k l.j l.initial.here l.m l.here

@@ -3,11 +3,10 @@
 use mathlib.Core.Path.{◌≡◌, refl, ap, sym, ◌∙◌}
 use mathlib.Core.Logic.{⊎_elim}
 use Prim.Native.Nat.{ℕ, min, ◌+◌, ◌-◌, ◌*◌, ◌/◌, ◌%◌, ◌^◌, ◌≤◌, ◌<◌}
-use native.Mathlib.Nat.{le_trans, mul-le-mul_left, mul-le-mul_right, min-le_left, pow-succ', div-eq_of_lt-le}
+use native.Mathlib.Nat.{le_trans, mul-le-mul_right, min-le_left, pow-succ', div-eq_of_lt-le}
 use native.Mathlib.Numerals.{add-one}
 use native.Mathlib.Omega.{arith}
 use mathlib.Core.List.{List}
-use lib.Pow.{pow_pos, pow_mono}
 use borrow.Author.Tests.{lt-ltb, le-ltb}
 use Rattle.std.proofs.lemmas.Bool.{cases_lt}
 use Rattle.tree.specs.declared.Best.{Best}
@@ -71,11 +70,6 @@ climb_starts t a b p =
       lower = refl;
     }
 
--- a node over a block stands eight levels above it at most
-level-bound : {v h x : ℕ} → Under v h x → x ≤ 255 → 1 ≤ v → h ≤ 8
-level-bound {v} {h} {x} u b p =
-    ⊎_elim (λ q. omega arith) (λ q. absurd (omega (arith, mul-le-mul_right (2 ^ h) p, pow_mono q, u.first))) (cases_lt h 9)
-
 -- under a node between the two stand only blocks between
 between : {a b l r h : ℕ} (v : ℕ) → Under l h a → Under r h b → l < v → v < r → Within v h (257 + a) (256 + b)
 between {a} {b} {l} {r} {h} v ua ub p q =
@@ -109,15 +103,11 @@ carried {t} {f} {f'} {e} {e'} {b} {b'} p q s w =
 out : {t : List ℕ} {f e : ℕ} (a b k : ℕ) → e ≡ f → 1048576 ≤ k → Lowest t f e (best_of a b k)
 out a b k p l = record { none = λ _. omega (arith, best_low a b k); some = λ s. absurd (omega arith) }
 
--- where the two have not met, the next level is in the tree too
-level_below : {b h : ℕ} (l r : ℕ) → Under r h b → b ≤ 255 → l / 2 < r / 2 → h ≤ 7
-level_below l r ub last apart = omega (arith, level-bound (parent ub) last (omega arith))
-
 -- what is passed at level h
-module _ {a b l r h : ℕ} {t : List ℕ} (ua : Under l h a) (ub : Under r h b) (last : b ≤ 255) (apart : l / 2 < r / 2) where
+module _ {a b l r h : ℕ} {t : List ℕ} (ua : Under l h a) (ub : Under r h b) (last : b ≤ 255) (level : h ≤ 7) (apart : l / 2 < r / 2) where
   node : (v : ℕ) → at t v ≤ 65535 → l < v → v < r → Lowest t (v * 2 ^ h) ((v + 1) * 2 ^ h) (record { low = at t v; node = v; level = h })
   node v small p q =
-      alone v h (omega (arith, level_below l r ub last apart)) small (wider (omega arith) (omega arith) (between v ua ub p q))
+      alone v h (omega arith) small (wider (omega arith) (omega arith) (between v ua ub p q))
 
   pass_left : at t (l + 1 - l % 2) ≤ 65535 → Lowest t ((l + 1) * 2 ^ h) ((l / 2 + 1) * 2 ^ (h + 1)) (best_of a b (left_key t l h))
   pass_left small =
@@ -126,7 +116,7 @@ module _ {a b l r h : ℕ} {t : List ℕ} (ua : Under l h a) (ub : Under r h b) 
       let even : l + 1 - l % 2 ≡ l + 1 = omega arith in
       let same : at t (l + 1 - l % 2) ≡ at t (l + 1) = ap (at t) even in
       carried refl (doubled (l / 2 + 1) (l + 1 + 1) h (omega arith))
-      (passed_left a b l h (at t (l + 1)) (left_key t l h) ua (level_below l r ub last apart) (omega arith))
+      (passed_left a b l h (at t (l + 1)) (left_key t l h) ua level (omega arith))
       (node (l + 1) (omega arith) (omega arith) (omega arith)))
       (λ (p : 1 ≤ l % 2). out a b (left_key t l h) (doubled (l / 2 + 1) (l + 1) h (omega arith)) (omega arith))
       (cases_lt (l % 2) 1)
@@ -141,22 +131,9 @@ module _ {a b l r h : ℕ} {t : List ℕ} (ua : Under l h a) (ub : Under r h b) 
       let next : r ≡ r - 1 + 1 = omega arith in
       let under = rw next at ub in
       carried (doubled (r / 2) (r - 1) h (omega arith)) (ap (λ (w : ℕ). w * 2 ^ h) next)
-      (passed_right a b (r - 1) h (at t (r - 1)) (right_key t r h) under (level_below l r ub last apart) (omega arith))
+      (passed_right a b (r - 1) h (at t (r - 1)) (right_key t r h) under level (omega arith))
       (node (r - 1) (omega arith) (omega arith) (omega arith)))
       (cases_lt (r % 2) 1)
-
--- the two stay in the tree
-pub record Inside (r h : ℕ) : Type 0 where
-  pub levels : h ≤ 7
-  pub leaves : r < 512
-
-pub climb_inside : {t : List ℕ} {a b l r h k : ℕ} → b ≤ 255 → (l / 2 ≡ r / 2 → ⊥) → Climbing t a b l r h k → Inside r h
-climb_inside {t} {a} {b} {l} {r} {h} last unmet c =
-    let p = c.apart in
-    record {
-      levels = level_below l r c.over_b last (omega arith);
-      leaves = omega (arith, mul-le-mul_left r (pow_pos h), c.over_b.first);
-    }
 
 -- level by level the two sides widen
 widens_left : (l h : ℕ) → (l + 1) * 2 ^ h ≤ (l / 2 + 1) * 2 ^ (h + 1)
@@ -179,12 +156,11 @@ lower-both : (k l r x y : ℕ) → k ≡ min l r → min k (min x y) ≡ min (mi
 lower-both k l r x y e = omega arith
 
 -- one level up
-climb_next : {t : List ℕ} {a b l r h k : ℕ} → b ≤ 255 → at t (l + 1 - l % 2) ≤ 65535 → at t (r - r % 2) ≤ 65535 → (l / 2 ≡ r / 2 → ⊥)
+climb_next : {t : List ℕ} {a b l r h k : ℕ} → b ≤ 255 → h ≤ 7 → at t (l + 1 - l % 2) ≤ 65535 → at t (r - r % 2) ≤ 65535 → (l / 2 ≡ r / 2 → ⊥)
     → Climbing t a b l r h k → Climbing t a b (l / 2) (r / 2) (h + 1) (min k (min (left_key t l h) (right_key t r h)))
-climb_next {t} {a} {b} {l} {r} {h} {k} last left right unmet c =
+climb_next {t} {a} {b} {l} {r} {h} {k} last level left right unmet c =
     let p = c.apart in
     let apart : l / 2 < r / 2 = omega arith in
-    let level = level_below l r c.over_b last apart in
     let i = c.left_rank in
     let rank : right_key t r h % 16 ≡ right_rank h = key_rank _ (right_rank h) (omega arith) in
     let older : right_rank h ≤ c.right % 16 = later h (c.right % 16) level c.right_ranked in
@@ -200,25 +176,33 @@ climb_next {t} {a} {b} {l} {r} {h} {k} last left right unmet c =
       right_ranked = rw up (lower_right (right_key t r h) c.right (right_rank h) (omega arith) older);
       on_left =
           join a b c.left (left_key t l h) from (widens_left l h) (omega arith) c.on_left
-          (pass_left c.over_a c.over_b last apart left);
+          (pass_left c.over_a c.over_b last level apart left);
       on_right =
           join a b (right_key t r h) c.right (widens_right r h) c.over_b.first (omega arith)
-          (pass_right c.over_a c.over_b last apart right) c.on_right;
+          (pass_right c.over_a c.over_b last level apart right) c.on_right;
       bound = le_trans (min-le_left k _) c.bound;
       lower = lower-both k c.left c.right (left_key t l h) (right_key t r h) c.lower;
     }
 
-pub climb_on : {t : List ℕ} {a b l r h k j : ℕ} → b ≤ 255 → at t (l + 1 - l % 2) ≤ 65535 → at t (r - r % 2) ≤ 65535 → (l / 2 ≡ r / 2 → ⊥)
+pub climb_on : {t : List ℕ} {a b l r h k j : ℕ} → b ≤ 255 → h ≤ 7 → at t (l + 1 - l % 2) ≤ 65535 → at t (r - r % 2) ≤ 65535 → (l / 2 ≡ r / 2 → ⊥)
     → j ≡ min k (min (left_key t l h) (right_key t r h)) → Climbing t a b l r h k → Climbing t a b (l / 2) (r / 2) (h + 1) j
-climb_on {t} {a} {b} {l} {r} {h} last left right unmet is c =
-    rw is (climb_next last left right unmet c)
+climb_on {t} {a} {b} {l} {r} {h} last level left right unmet is c =
+    rw is (climb_next last level left right unmet c)
+
+-- eight levels up is the root
+all_met : {a b l r : ℕ} → a ≤ 255 → b ≤ 255 → Under l 8 a → Under r 8 b → l / 2 ≡ r / 2
+all_met p q ua ub = omega arith
+
+pub climb_met : {t : List ℕ} {a b l r h k : ℕ} → a < b → b ≤ 255 → h ≤ 8 → 8 ≤ h → Climbing t a b l r h k → l / 2 ≡ r / 2
+climb_met {t} {a} {b} {l} {r} {h} p q level end c =
+    let e : h ≡ 8 = omega arith in
+    all_met (omega arith) q (rw e at c.over_a) (rw e at c.over_b)
 
 -- where they have met the two sides are the whole
-pub climb_ends : {t : List ℕ} {a b l r h k : ℕ} → b ≤ 255 → l / 2 ≡ r / 2 → Climbing t a b l r h k → Between t a b (best_of a b k)
-climb_ends {t} {a} {b} {l} {r} {h} {k} last met c =
+pub climb_ends : {t : List ℕ} {a b l r h k : ℕ} → h ≤ 8 → l / 2 ≡ r / 2 → Climbing t a b l r h k → Between t a b (best_of a b k)
+climb_ends {t} {a} {b} {l} {r} {h} {k} level met c =
     let p = c.apart in
     let next : r ≡ l + 1 = omega arith in
-    let level = level-bound c.over_b last (omega arith) in
     let i = c.left_rank in
     let j = c.right_ranked in
     let from : 257 + a ≤ (l + 1) * 2 ^ h = omega (arith, c.over_a.last) in

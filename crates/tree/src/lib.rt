@@ -104,13 +104,14 @@ pub fn climb(t: Summary<'_>, a: usize, b: usize) -> Best
 {
     let mut l = 256 + a;
     let mut r = 256 + b;
-    let mut h = 0;
     let mut best: usize = 16 * 65536;
-    while l / 2 != r / 2 {
+    for h in 0..8 {
+        if l / 2 == r / 2 {
+            break;
+        }
         best = best.min(left_key(t, l, h).min(right_key(t, r, h)));
         l /= 2;
         r /= 2;
-        h += 1;
     }
     passed(best, a, b)
 }

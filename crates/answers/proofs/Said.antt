@@ -41,6 +41,10 @@ there_and_back (Err DrawerFull) = refl
 pub said_once : (a b : Answer) → said a ≡ said b → a ≡ b
 said_once a b e = sym (there_and_back a) ∙ ap back e ∙ there_and_back b
 
+-- two answers that say what a rule says are one
+pub one : {o : Outcome} (a b : Answer) → said a ≡ o → said b ≡ o → a ≡ b
+one a b e f = said_once a b (e ∙ sym f)
+
 -- a refusal that a `?` hands on is the one that came
 pub handed_on : {T : Type 0} (r : Result T Refusal) (x : Refusal) → IsErrAnd r (λ y. y ≡ x) → r ≡ Err x
 handed_on r x h = let (y, e, f) = err_from_is_err_and r h in e ∙ ap Err f

@@ -5,13 +5,9 @@ use mathlib.Core.List.{List}
 use Rattle.rules.specs.Refusal.{Outcome, refusal}
 use Rattle.rules.specs.Order.{ask_says}
 use Rattle.rules.specs.Summary.{QuickSays}
-use Rattle.answers.specs.Said.{Answer, said}
-use Rattle.answers.proofs.Said.{said_once}
+use Rattle.answers.specs.Said.{said}
+use Rattle.answers.proofs.Said.{one}
 use Rattle.promises.specs.Once.{Settled, refused, own, named, Once}
-
--- two answers that say what a rule says are one
-one : {o : Outcome} (a b : Answer) → said a ≡ o → said b ≡ o → a ≡ b
-one a b e f = said_once a b (e ∙ sym f)
 
 -- what the quick ask says where it has one result
 settles : {r t : List ℕ} {i j : ℕ} → Settled r t i j → (o : Outcome) × ((p : Outcome) → QuickSays r t i j p → p ≡ o)

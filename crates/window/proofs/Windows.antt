@@ -18,8 +18,7 @@ use Rattle.rules.proofs.Least.{least_is}
 use Rattle.rules.proofs.Between.{between_stand_in}
 use Rattle.rules.proofs.Checked.{not_refused, passed, went_on, says_checked, parens-length}
 use Rattle.rules.proofs.Window.{stands_keeps, refused_keeps, in_refused, in_inside}
-use Rattle.answers.specs.Said.{Answer, said}
-use Rattle.answers.proofs.Said.{said_once}
+use Rattle.answers.proofs.Said.{one}
 use Rattle.window.specs.declared.Window.{Window}
 use Rattle.window.specs.Made.{Made, in_window}
 use Rattle.window.specs.Windows.{Standing, Windows, Once}
@@ -129,9 +128,6 @@ windows =
     }
 
 -- ---- one result for one input
-
-one : {o : Outcome} (a b : Answer) → said a ≡ o → said b ≡ o → a ≡ b
-one a b e f = said_once a b (e ∙ sym f)
 
 pub once : Once
 once =

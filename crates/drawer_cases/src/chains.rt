@@ -70,6 +70,7 @@ pub fn many(calls: &mut Calls<impl Print>) -> io::Result<()> {
     let mut column = [0u32; 70];
     columns::Kind::Scattered.fill(&mut column, 0);
     for n in 0..70 {
+        // counted, whatever it says
         let _ = chain.append(calls, &column[..n]);
     }
     let sum = sums::sum(&chain.buffer);

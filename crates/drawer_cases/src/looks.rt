@@ -6,7 +6,7 @@ use shown::Hexes;
 use std::io;
 
 pub fn all(calls: &mut Calls<impl Print>) -> io::Result<()> {
-    let owns: [&[u8]; 9] = [
+    let own_drawers: [&[u8]; 9] = [
         // records with entries; without; one of each, both ways; one whose bits are out of balance
         &[0x52, 0x4D, 1, 0, 1, 0x52, 0x4D, 5, 0, 0x33, 1],
         &[0x52, 0x4D, 0, 0, 0x52, 0x4D, 0, 0],
@@ -20,7 +20,7 @@ pub fn all(calls: &mut Calls<impl Print>) -> io::Result<()> {
         &[0x52, 0x4D, 1, 0, 1, 0x52, 0x4E, 1, 0, 1],
         &[0x52, 0x4D, 1, 0, 1, 0x52, 0x4D, 1, 0x80, 1],
     ];
-    let shareds: [&[u8]; 5] = [
+    let shared_drawers: [&[u8]; 5] = [
         // records with entries; without; no record; bytes that are no records
         &[0x52, 0x4D, 2, 0, 3, 0x52, 0x4D, 3, 0, 0x13],
         &[0x52, 0x4D, 0, 0, 0x52, 0x4D, 0, 0],
@@ -28,8 +28,8 @@ pub fn all(calls: &mut Calls<impl Print>) -> io::Result<()> {
         &[0x51, 0x4D, 0, 0],
         &[0x52, 0x4D, 0, 0, 0x52, 0x4D, 1, 0x80],
     ];
-    for own in owns {
-        for shared in shareds {
+    for own in own_drawers {
+        for shared in shared_drawers {
             println!(calls.rt; "own{}; shared{}", Hexes(own), Hexes(shared))?;
             calls.looks(own, shared, &[0, 1, 64])?;
         }

@@ -19,6 +19,7 @@ fn again(buffer: &mut [u8], bytes: &[u8]) {
     }
 }
 
+// A record of 32,768 entries has 8,196 bytes.
 fn of_most(buffer: &mut [u8]) {
     buffer.fill(0xA5);
     for (r, record) in buffer.chunks_mut(8196).enumerate() {

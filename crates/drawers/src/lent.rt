@@ -63,12 +63,11 @@ impl Lent {
 
 impl fmt::Display for Lent {
     fn fmt<W: fmt::Write>(&self, f: &mut fmt::Formatter<W>) -> fmt::Result {
-        let Lent {
-            room,
-            used,
-            numbers,
-        } = *self;
-        write!(f, "into {room} used {used} with {numbers}")
+        write!(
+            f,
+            "into {} used {} with {}",
+            self.room, self.used, self.numbers
+        )
     }
 }
 

@@ -40,6 +40,7 @@ pub record StandsIn (t : List ℕ) (blocks i : ℕ) (r : Option ℕ) : Type 0 wh
 
 -- the excess before block k
 pub record Before (t : List ℕ) (k r : ℕ) : Type 0 where
+  pub bound : r ≤ 65535
   pub first : k ≡ 0 → r ≡ 0
   pub later : 0 < k → r ≡ get_or t (k - 1) 0
   pub right : (s : List Paren) (n : ℕ) → Own t s n → 0 < k → k < blocks_for n → r ≡ excess 0 s (256 * k - 1)

@@ -26,7 +26,7 @@ impl Spine<'_> {
             return self.height;
         }
         for k in (0..self.height - 1).rev() {
-            let p = self.places[k] as usize;
+            let p = usize::from(self.places[k]);
             if column[p] < a {
                 return k + 1;
             }

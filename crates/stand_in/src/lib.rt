@@ -39,14 +39,14 @@ impl Walk {
     {
         let mut excess = self.excess;
         let mut closed = self.closed;
-        let mut rest = b as u32;
+        let mut rest = u32::from(b);
         for _ in 0..count {
             let opens = rest % 2;
             let closes = 1 - opens;
             excess = excess + opens - closes;
             column[closed] = excess;
             closed += closes as usize;
-            rest = rest / 2;
+            rest /= 2;
         }
         Walk { excess, closed }
     }

@@ -27,8 +27,3 @@ returns-then-n-gt0 c =
     let k : c.loop-k.k ≡ c.args.checked.entries / 128 = omega arith in
     let blocks : blocks_for c.args.checked.entries ≡ c.args.checked.entries / 128 + 1 = omega arith in
     rw blocks (lays-on (omega (arith, few c.args.checked)) (omega arith) (rw k at c.loop-k.invariant.1) c.last.ensures c.note-then-n-gt0.ensures)
-
-pub returns-else-n-gt0 : goal.returns-else-n-gt0
-returns-else-n-gt0 c =
-    let k : blocks_for c.args.checked.entries ≡ c.loop-k.k = omega arith in
-    rw k c.loop-k.invariant.1

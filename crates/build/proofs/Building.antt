@@ -1,11 +1,13 @@
 -- From the checks and the parts of a record to the contract of `build`.
 -- Assumes nothing.
 use mathlib.Core.Path.{◌≡◌, sym}
-use Prim.Native.Nat.{ℕ, ◌/◌, ◌%◌, ◌≤◌, ◌<◌}
+use Prim.Native.Nat.{ℕ, ◌-◌, ◌/◌, ◌%◌, ◌≤◌, ◌<◌}
 use native.Mathlib.Omega.{arith}
-use mathlib.Core.List.{List, ◌∷◌, ◌++◌}
+use mathlib.Core.List.{List, [], ◌∷◌, ◌++◌}
 use borrow.Author.Tests.{lt-ltb, le-ltb}
-use lib.ListN.{length, take, drop, replicate, length-take}
+use lib.ListN.{length, take, drop, replicate}
+use lib.Seq.{drop_at, length-take-le}
+use borrow.Rule.Slice.PartMut.{put_mid, post_of, Post-is}
 use Rattle.rules.specs.Bytes.{most, record_length, record_of, column_record}
 use Rattle.rules.specs.Refusal.{answer, refusal}
 use Rattle.rules.specs.Order.{build_says, output_after, work_after}
@@ -14,7 +16,7 @@ use Rattle.answers.specs.declared.Refusal.TheVariants.{TooManyEntries, OutputSho
 use Rattle.std.specs.Prelude.{Ok, Err}
 use Rattle.answers.specs.Said.{number}
 use Rattle.build.specs.Builds.{Builds}
-use Rattle.build.specs.Body.{Taken, Bodied}
+use Rattle.build.specs.Body.{Bodied}
 
 refused : (c w o : List ℕ) (x : Refusal) → build_says c (length w) (length o) ≡ refusal (number x) → Builds c w o (Err x) w o
 unfolding output_after work_after
@@ -34,19 +36,17 @@ unfolding build_says
 work_short c w o few long short =
     refused c w o WorkShort (simp (le-ltb most (length c) few, le-ltb (length o) (record_length (length c)) long, lt-ltb (length w) (length c) short))
 
--- w₁ and o₁ are left by the pass over the column, v is the part of the work that it used, cleared
-pub built : {c w o w₁ o₁ v o' : List ℕ} {size : ℕ} → size ≡ record_length (length c) → Taken c w o → Bodied c w o w₁ o₁
-    → o' ≡ 0x52 ∷ 0x4D ∷ length c % 256 ∷ length c / 256 ∷ drop 4 o₁ → length w₁ ≡ length w → v ≡ replicate (length (take (length c) w₁)) 0
-    → Builds c w o (Ok size) (v ++ drop (length c) w₁) o'
+-- v is the part of the work that the pass over the column used, cleared; b and f are the output's body and its head, stored in this order
+pub built : {c w o f b v : List ℕ} {m : ℕ} → length c ≤ most → m ≤ length o → length c ≤ length w → m ≡ record_length (length c)
+    → Bodied c b → v ≡ replicate (length c) 0 → f ≡ 0x52 ∷ 0x4D ∷ length c % 256 ∷ length c / 256 ∷ []
+    → Builds c w o (Ok m) (v ++ drop (length c) w) (f ++ drop 4 (put_mid 4 (m - 4) o b))
 unfolding build_says output_after work_after record_of column_record
-built {c} {w} {o} {w₁} {o₁} {v} {o'} size taken bodied head same clear =
-    let few = le-ltb most (length c) taken.few in
-    let long = le-ltb (length o) (record_length (length c)) taken.output in
-    let wide = le-ltb (length w) (length c) taken.work in
-    let says : build_says c (length w) (length o) ≡ answer (record_length (length c)) = simp (few, long, wide) in
-    let used : length (take (length c) w₁) ≡ length c = omega (arith, length-take (length c) w₁, taken.work) in
+built {c} {w} {o} {f} {b} {v} {m} few long wide size bodied clear head =
+    let says : build_says c (length w) (length o) ≡ answer (record_length (length c)) =
+    simp (le-ltb most (length c) few, le-ltb (length o) (record_length (length c)) (omega arith), le-ltb (length w) (length c) wide) in
+    let front : length (take 4 o) ≡ 4 = length-take-le 4 o (omega arith) in
     record {
       says = rw (size, says);
-      output = rw says (rw bodied.body at head);
-      work = rw (says, clear, used, bodied.rest);
+      output = rw (drop_at (take 4 o) (b ++ post_of 4 (m - 4) o) 4 front, Post-is 4 m o (omega arith), says, head, bodied.body, size);
+      work = rw (says, clear);
     }

@@ -1,6 +1,6 @@
 -- The pass over the column, an entry a turn from the right: the stack is the left spine of the tree of the entries passed, and all of the
 -- tree's parentheses are written but the spine's openings. Assumes nothing.
-use mathlib.Core.Path.{◌≡◌, refl, ap, ◌∙◌}
+use mathlib.Core.Path.{◌≡◌, ap, ◌∙◌}
 use Prim.Native.Nat.{ℕ, suc, ◌+◌, ◌-◌, ◌*◌, ◌%◌, ◌≤◌, ◌<◌}
 use native.Mathlib.Nat.{sub_self, sub-zero, le_refl}
 use native.Mathlib.Numerals.{add-one}
@@ -9,9 +9,9 @@ use mathlib.Core.List.{List, [], ◌∷◌, ◌++◌}
 use borrow.Author.Count.{below_more}
 use lib.Arith.{le-zero}
 use lib.ListN.{length, drop, get_or, set, replicate, length-set, length-replicate}
-use lib.Seq.{drop-cons, drop-length, take-nil, drop-set-lt, get_or-set_same, get_or-set_other}
+use lib.Seq.{drop-cons, drop-length, take-nil, get_or-set_same, get_or-set_other}
 use Rattle.rules.specs.Shape.{Paren, opening, closing}
-use Rattle.rules.specs.Bytes.{bits, bytes_of, bytes_for, record_length}
+use Rattle.rules.specs.Bytes.{most, bits, bytes_of, bytes_for}
 use Rattle.theory.proofs.Tree.{Tree, push, tree_of, spine}
 use Rattle.theory.proofs.Spine.{rest, written-rest, kept, spine-push, rest-push, rises, Lies, lies_push, kept_is}
 use Rattle.theory.proofs.Ordered.{shape_tree}
@@ -25,24 +25,23 @@ use Rattle.build.proofs.Writing.{goes_on}
 
 -- the entries from i on had their turns: their tree's left spine is on the stack, and the rest of its parentheses is written. What is still
 -- to be written has room: an opening and a closing for each entry to come, and the openings of the spine.
-pub record Turned (c w₀ o₀ : List ℕ) (p : Pen) (q : Spine) (i : ℕ) : Type 0 where
-  pub taken : Taken c w₀ o₀
+pub record Turned (c : List ℕ) (p : Pen) (q : Spine) (i : ℕ) : Type 0 where
+  pub few : length c ≤ most
   pub height : q.height ≡ spine (tree_of (drop i c))
   pub low : q.height + i ≤ length c
   pub lies : Lies (entry_at c q.places.now) (tree_of (drop i c))
   pub stack : Stacked c q
-  pub penned : Penned (bytes_for (length c)) (drop (record_length (length c)) o₀) p (rest (tree_of (drop i c)))
+  pub penned : Penned p (rest (tree_of (drop i c)))
   pub room : 8 * p.left ≡ p.held + (2 * i + q.height)
-  pub work : length q.places.now ≡ length w₀
-  pub output : length p.out.now ≡ length o₀
-  pub beyond : drop (length c) q.places.now ≡ drop (length c) w₀
+  pub work : length q.places.now ≡ length c
+  pub output : length p.body.now ≡ bytes_for (length c)
 
-pub none_turned : (c : List ℕ) (o w : MutBor (List ℕ)) (m : ℕ) → m ≡ bytes_for (length c) → Taken c w.now o.now
-    → Turned c w.now o.now (record { out = o; left = m; held = (8 - 2 * (length c % 4)) % 8; acc = 0 }) (record { places = w; height = 0; top = 0 }) (length c)
+pub none_turned : (c : List ℕ) (o w : MutBor (List ℕ)) → Taken c w.now o.now
+    → Turned c (record { body = o; left = length o.now; held = (8 - 2 * (length c % 4)) % 8; acc = 0 }) (record { places = w; height = 0; top = 0 }) (length c)
 unfolding tree_of spine rest Lies bits bytes_of
-none_turned c o w m is taken =
+none_turned c o w taken =
     record {
-      taken = taken;
+      few = taken.few;
       height = rw drop-length;
       low = omega arith;
       lies = rw drop-length tt;
@@ -51,36 +50,32 @@ none_turned c o w m is taken =
         few = omega arith;
         within = omega arith;
         holds = rw take-nil;
-        bytes = rw (is, sub_self);
+        bytes = rw (sub_self, drop-length);
       });
-      room = omega arith;
-      work = refl;
-      output = refl;
-      beyond = refl;
+      room = omega (arith, taken.output);
+      work = taken.work;
+      output = taken.output;
     }
 
 -- what is still to be written has room, at the turn's beginning and within it
-pub ready : {c w₀ o₀ : List ℕ} {p : Pen} {q : Spine} {i k : ℕ} → Turned c w₀ o₀ p q i → k ≤ 2 * i + q.height → Ready p k
+pub ready : {c : List ℕ} {p : Pen} {q : Spine} {i k : ℕ} → Turned c p q i → k ≤ 2 * i + q.height → Ready p k
 ready u le =
     record {
-      m = _;
-      rest = _;
       s = _;
       penned = u.penned;
       room = omega arith;
-      fits = omega (arith, u.penned.within);
     }
 
-pub ready_after : {c w₀ o₀ : List ℕ} {a : List Paren} {p p' : Pen} {q : Spine} {i k : ℕ}
-    → Turned c w₀ o₀ p q i → Writes a p p' → length a + k ≤ 2 * i + q.height → Ready p' k
+pub ready_after : {c : List ℕ} {a : List Paren} {p p' : Pen} {q : Spine} {i k : ℕ}
+    → Turned c p q i → Writes a p p' → length a + k ≤ 2 * i + q.height → Ready p' k
 ready_after {a = a} {k = k} u w le = goes_on (ready {k = length a + k} u le) w (le_refl (length a + k))
 
 -- a turn: the tree gets one more entry
-pub one-turned : {c w₀ o₀ : List ℕ} {p p' p'' : Pen} {q q' : Spine} {i k : ℕ}
-    → Turned c w₀ o₀ p q i → 0 < i → Keeps c q (get_or c (i - 1) 0) k → Writes (replicate (q.height - k) opening) p p' → Writes (closing ∷ []) p' p''
-    → q'.places.now ≡ set q.places.now k (i - 1) → q'.height ≡ k + 1 → q'.top ≡ get_or c (i - 1) 0 → Turned c w₀ o₀ p'' q' (i - 1)
+pub one-turned : {c : List ℕ} {p p' p'' : Pen} {q q' : Spine} {i k : ℕ}
+    → Turned c p q i → 0 < i → Keeps c q (get_or c (i - 1) 0) k → Writes (replicate (q.height - k) opening) p p' → Writes (closing ∷ []) p' p''
+    → q'.places.now ≡ set q.places.now k (i - 1) → q'.height ≡ k + 1 → q'.top ≡ get_or c (i - 1) 0 → Turned c p'' q' (i - 1)
 unfolding tree_of
-one-turned {c} {w₀} {o₀} {p} {p'} {p''} {q} {q'} {i} {k} u some keeps opened closed stored higher top =
+one-turned {c} {p} {p'} {p''} {q} {q'} {i} {k} u some keeps opened closed stored higher top =
     let a : ℕ = get_or c (i - 1) 0 in
     let t : Tree = tree_of (drop i c) in
     let w : List ℕ = q.places.now in
@@ -91,7 +86,7 @@ one-turned {c} {w₀} {o₀} {p} {p'} {p''} {q} {q'} {i} {k} u some keeps opened
     let old : (j : ℕ) → j < k → get_or (set w k (i - 1)) j 0 ≡ get_or w j 0 = λ j l. get_or-set_other w k j (i - 1) 0 (omega arith) in
     let run : length (replicate (q.height - k) opening) ≡ q.height - k = length-replicate (q.height - k) opening in
     record {
-      taken = u.taken;
+      few = u.few;
       height = rw (higher, tree, spine-push, ← is, add-one);
       low = omega (arith, keeps.within, u.low);
       lies = rw (stored, tree) (lies_push a t (entry_at c w) (entry_at c (set w k (i - 1))) u.lies (λ j l. ap (λ (n : ℕ). get_or c n 0) (old j (rw is l))) (rw (← is, new)));
@@ -104,19 +99,15 @@ one-turned {c} {w₀} {o₀} {p} {p'} {p''} {q} {q'} {i} {k} u some keeps opened
       room = omega (arith, opened.room, closed.room, u.room);
       work = rw (stored, length-set w k (i - 1)) u.work;
       output = closed.same ∙ opened.same ∙ u.output;
-      beyond = rw (stored, drop-set-lt (length c) w k (i - 1) (omega (arith, keeps.within, u.low))) u.beyond;
     }
 
 -- the spine's openings make the parentheses whole
-pub all_turned : {c w₀ o₀ w o : List ℕ} {p p' : Pen} {q : Spine} {i : ℕ}
-    → Turned c w₀ o₀ p q i → i ≤ 0 → Writes (replicate q.height opening) p p' → w ≡ q.places.now → o ≡ p'.out.now → Bodied c w₀ o₀ w o
-all_turned {c} {w₀} {o₀} {w} {o} {p} {p'} {q} {i} v le opened work output =
-    let u : Turned c w₀ o₀ p q 0 = rw (le-zero le) at v in
+pub all_turned : {c o : List ℕ} {p p' : Pen} {q : Spine} {i : ℕ} → Turned c p q i → i ≤ 0 → Writes (replicate q.height opening) p p' → o ≡ p'.body.now → Bodied c o
+all_turned {c} {o} {p} {p'} {q} {i} v le opened output =
+    let u : Turned c p q 0 = rw (le-zero le) at v in
     let run : length (replicate q.height opening) ≡ q.height = length-replicate q.height opening in
-    let whole : Penned (bytes_for (length c)) (drop (record_length (length c)) o₀) p' (replicate q.height opening ++ rest (tree_of c)) = opened.front u.penned in
+    let whole : Penned p' (replicate q.height opening ++ rest (tree_of c)) = opened.front u.penned in
     let done : p'.left ≡ 0 = omega arith in
     let none : p'.held ≡ 0 = omega arith in
-    record {
-      body = rw (output, shape_tree, written-rest, ← u.height) (rw (done, none, sub-zero) at whole.bytes);
-      rest = rw work u.beyond;
-    }
+    let size : length p'.body.now ≡ bytes_for (length c) = opened.same ∙ u.output in
+    record { body = rw (output, shape_tree, written-rest, ← u.height) (rw (done, none, sub-zero, size) at whole.bytes) }

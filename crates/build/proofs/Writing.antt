@@ -21,15 +21,15 @@ pub record Adds (a : List Paren) (p : Pen) (v : ℕ) : Type 0 where
   pub is : (s : List Paren) → p.acc ≡ bits (take p.held s) → v ≡ bits (a ++ take p.held s)
 
 -- fewer than eight are held
-pub holds_more : (a : List Paren) (p : Pen) (o : MutBor (List ℕ)) (h v : ℕ) → o.now ≡ p.out.now → length a + p.held ≡ h → h < 8 → Adds a p v
-    → Writes a p (record { out = o; left = p.left; held = h; acc = v })
+pub holds_more : (a : List Paren) (p : Pen) (o : MutBor (List ℕ)) (h v : ℕ) → o.now ≡ p.body.now → length a + p.held ≡ h → h < 8 → Adds a p v
+    → Writes a p (record { body = o; left = p.left; held = h; acc = v })
 holds_more a p o h v is e few adds =
     record {
       room = omega arith;
       same = rw is;
-      front = λ {m} {rest} {s} w. record {
+      front = λ {s} w. record {
         few = few;
-        within = w.within;
+        within = rw is w.within;
         holds = rw (← e, take-append-add) (adds.is s w.holds);
         bytes = rw (is, ← e, drop-append-add) w.bytes;
       };
@@ -46,21 +46,22 @@ unfolding bytes_of
 byte a s h k e = rw (← e, take-append-add, drop-append-add)
 
 -- eight are held: the byte is stored, and the pen holds nothing
-pub stores : (a : List Paren) (p : Pen) (o : MutBor (List ℕ)) (v : ℕ) → o.now ≡ set p.out.now (4 + (p.left - 1)) v → length a + p.held ≡ 8 → 0 < p.left
-    → 4 + p.left ≤ length p.out.now → Adds a p v → Writes a p (record { out = o; left = p.left - 1; held = 0; acc = 0 })
+pub stores : (a : List Paren) (p : Pen) (o : MutBor (List ℕ)) (v : ℕ) → o.now ≡ set p.body.now (p.left - 1) v → length a + p.held ≡ 8 → 0 < p.left
+    → p.left ≤ length p.body.now → Adds a p v → Writes a p (record { body = o; left = p.left - 1; held = 0; acc = 0 })
 unfolding bits
 stores a p o v is e some fits adds =
+    let size : length o.now ≡ length p.body.now = rw is (length-set p.body.now _ v) in
     record {
       room = omega arith;
-      same = rw is (length-set p.out.now _ v);
-      front = λ {m} {rest} {s} w.
-          let less : m - (p.left - 1) ≡ suc (m - p.left) = omega arith in
-          let next : suc (4 + (p.left - 1)) ≡ 4 + p.left = omega arith in
+      same = size;
+      front = λ {s} w.
+          let less : length o.now - (p.left - 1) ≡ suc (length p.body.now - p.left) = omega arith in
+          let next : suc (p.left - 1) ≡ p.left = omega arith in
           record {
             few = omega arith;
-            within = omega (arith, w.within);
+            within = omega arith;
             holds = refl;
-            bytes = rw (is, drop_set p.out.now (4 + (p.left - 1)) v (omega arith), less, next, byte a s p.held (m - p.left) e, ← (adds.is s w.holds), w.bytes);
+            bytes = rw (less, is, drop_set p.body.now (p.left - 1) v (omega arith), next, byte a s p.held (length p.body.now - p.left) e, ← (adds.is s w.holds), w.bytes);
           };
     }
 
@@ -101,19 +102,16 @@ and_then {a} {b} u v =
     record {
       room = omega (arith, u.room, v.room, length-append b a);
       same = v.same ∙ u.same;
-      front = λ {m} {rest} {s} w. rw append_assoc (v.front (u.front w));
+      front = λ {s} w. rw append_assoc (v.front (u.front w));
     }
 
 -- what has room after a run
 pub goes_on : {a : List Paren} {p q : Pen} {j k : ℕ} → Ready p k → Writes a p q → length a + j ≤ k → Ready q j
 goes_on {a} {p} {q} r w le =
     record {
-      m = r.m;
-      rest = r.rest;
       s = a ++ r.s;
       penned = w.front r.penned;
       room = omega arith;
-      fits = omega (arith, w.front r.penned);
     }
 
 -- part of a run of openings is written, the rest has room

@@ -4,7 +4,7 @@
 mod pen;
 mod spine;
 
-ghost use Rattle.std.specs.Prelude.{◌/◌, ◌%◌, ◌≤◌, ◌≡◌, ◌∷◌, ◌++◌, length, drop, replicate};
+ghost use Rattle.std.specs.Prelude.{◌/◌, ◌%◌, ◌≤◌, ◌≡◌, [], ◌∷◌, length};
 ghost use Rattle.rules.specs.Bytes.{most};
 ghost use Rattle.build.specs.Builds.{Builds};
 ghost use Rattle.build.specs.Body.{Taken, Bodied};
@@ -30,22 +30,23 @@ pub fn build(column: &[u32], work: &mut [u16], out: &mut [u8]) -> Result<usize, 
     if work.len() < n {
         return Err(Refusal::WorkShort);
     }
-    body(column, work, out);
-    head(out, n);
-    work[..n].fill(0);
+    let places = &mut work[..n];
+    body(column, places, &mut out[4..size]);
+    places.fill(0);
+    head(&mut out[..4], n);
     Ok(size)
 }
 
 // The parentheses, from the last to the first, an entry a turn from the right. Each entry comes to the spine once and
 // leaves it at most once, with its opening. The unused bits of the last byte are held as closings.
-fn body(column: &[u32], work: &mut [u16], out: &mut [u8])
-    requires { Taken column.now work.old out.old }
-    ensures { Bodied column.now work.old out.old work.new out.new }
+fn body(column: &[u32], work: &mut [u16], bytes: &mut [u8])
+    requires { Taken column.now work.old bytes.old }
+    ensures { Bodied column.now bytes.new }
 {
     let n = column.len();
     let mut pen = Pen {
-        out,
-        left: n.div_ceil(4),
+        left: bytes.len(),
+        body: bytes,
         held: (8 - 2 * (n % 4)) % 8,
         acc: 0,
     };
@@ -65,10 +66,10 @@ fn body(column: &[u32], work: &mut [u16], out: &mut [u8])
 }
 
 // The mark, and n, low byte first.
-fn head(out: &mut [u8], n: usize)
-    requires { (4 ≤ length out.old) × (n ≤ most) }
-    ensures { out.new ≡ 0x52 ∷ 0x4D ∷ n % 256 ∷ n / 256 ∷ drop 4 out.old }
+fn head(front: &mut [u8], n: usize)
+    requires { (length front.old ≡ 4) × (n ≤ most) }
+    ensures { front.new ≡ 0x52 ∷ 0x4D ∷ n % 256 ∷ n / 256 ∷ [] }
 {
     let [low, high] = (n as u16).to_le_bytes();
-    out[..4].copy_from_slice(&[0x52, 0x4D, low, high]);
+    front.copy_from_slice(&[0x52, 0x4D, low, high]);
 }

@@ -2,12 +2,11 @@
 use mathlib.Core.Path.{refl, ◌∙◌}
 use native.Mathlib.Omega.{arith}
 use borrow.Author.Rules.{rules}
-use lib.ListN.{length-replicate}
-use Rattle.build.proofs.Turning.{none_turned, ready, ready_after, one-turned, all_turned}
+use Rattle.build.proofs.Turning.{none_turned, one-turned, all_turned}
 use Rattle.build.proofs.body.Goals as goal
 
 pub loop-i-init : goal.loop-i-init
-loop-i-init c = (refl, refl, none_turned _ _ _ _ (omega (arith, c.div_ceil.ensures)) c.requires)
+loop-i-init c = (refl, refl, none_turned _ _ _ c.requires)
 
 pub loop-i-preserved : goal.loop-i-preserved
 loop-i-preserved c = (
@@ -18,4 +17,4 @@ loop-i-preserved c = (
 
 pub returns : goal.returns
 returns c =
-    all_turned c.loop-i.invariant.2 c.loop-i-test.false c.opens-2.ensures.writes (search rules) (search rules)
+    all_turned c.loop-i.invariant.2 c.loop-i-test.false c.opens-2.ensures.writes (search rules)

@@ -5,6 +5,6 @@ use Rattle.build.proofs.body.Given as goal
 
 abbrev pub invariant-loop-i : goal.invariant-loop-i
 invariant-loop-i l =
-    (l.pen.out.ghost_name ≡ l.initial.pen.out.ghost_name)
+    (l.pen.body.ghost_name ≡ l.initial.pen.body.ghost_name)
     × (l.spine.places.ghost_name ≡ l.initial.spine.places.ghost_name)
-    × Turned l.column l.fn.work l.fn.out l.pen l.spine l.i
+    × Turned l.column l.pen l.spine l.i

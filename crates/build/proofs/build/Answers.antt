@@ -1,5 +1,8 @@
 -- `build::build` meets its contract: three refusals, in the document's order, or the three parts of the work. Assumes nothing.
 use native.Mathlib.Omega.{arith}
+use mathlib.Core.Path.{◌≡◌, ◌∙◌}
+use lib.ListN.{length, take}
+use lib.Seq.{length-take-le}
 use Rattle.build.proofs.Building.{too_many, output_short, work_short, built}
 use Rattle.build.proofs.build.Goals as goal
 
@@ -14,4 +17,5 @@ returns-then-work-n c = work_short _ _ _ c.if-n-gt32768.false (omega arith) c.if
 
 pub returns : goal.returns
 returns c =
-    built (omega arith) (record { few = omega arith; output = omega arith; work = omega arith }) c.body.ensures c.head.ensures c.body.auto.work (c.fill.ensures.after (λ y e. e))
+    let places : length (take (length c.args.column.now) c.args.work.now) ≡ length c.args.column.now = length-take-le _ _ c.if-work-n.false in
+    built c.if-n-gt32768.false (omega arith) c.if-work-n.false (omega arith) c.body.ensures (rw (c.body.auto.work ∙ places) at (c.fill.ensures.after (λ y e. e))) c.head.ensures

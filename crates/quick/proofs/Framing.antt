@@ -76,15 +76,15 @@ module _ (r t : List ℕ) (n i j : ℕ) where
   bytes_after h = refuses 11 (says_after h)
 
   module _ (whole : length r ≤ record_length n) where
-    pub summary-short : length t < slots → Framed r t n i j (refusal 3)
-    summary-short h = refuses 3 (says-short whole h)
+    pub summary_short : length t < slots → Framed r t n i j (refusal 3)
+    summary_short h = refuses 3 (says-short whole h)
 
     module _ (room : slots ≤ length t) where
-      pub ask-outside : (j < i) ⊎ (i ≤ j × n ≤ j) → Framed r t n i j (refusal 8)
-      ask-outside = ⊎_elim (λ h. refuses 8 (says-crossed whole room h)) (λ h. refuses 8 (says_past whole room h.0 h.1))
+      pub range_missed : (j < i) ⊎ (i ≤ j × n ≤ j) → Framed r t n i j (refusal 8)
+      range_missed = ⊎_elim (λ h. refuses 8 (says-crossed whole room h)) (λ h. refuses 8 (says_past whole room h.0 h.1))
 
-      pub ask-inside : (lent : Lent) (o : Outcome) → body lent ≡ take (length r - 4) (drop 4 r) → numbers lent ≡ t → i ≤ j → j < n → Found lent n i j o → Framed r t n i j o
-      ask-inside lent o behind beside h l found =
+      pub asked_within : (lent : Lent) (o : Outcome) → body lent ≡ take (length r - 4) (drop 4 r) → numbers lent ≡ t → i ≤ j → j < n → Found lent n i j o → Framed r t n i j o
+      asked_within lent o behind beside h l found =
           let bytes : body lent ≡ drop 4 r = behind ∙ take_all (length r - 4) (drop 4 r) (omega (arith, length-drop 4 r)) in
           let e = says-inside whole room h l in
           record {
@@ -114,8 +114,11 @@ module _ (r t : List ℕ) (i j : ℕ) where
 
   module _ (n : ℕ) (frame : frame_says r ≡ answer n) where
     -- what it lets by is as long as the head says
-    pub framed-long : (record_length n ≤ length r) × (n ≤ 32768)
-    framed-long = let f = says_framed r n frame in (f.long, f.few)
+    pub framed_long : record_length n ≤ length r
+    framed_long = (says_framed r n frame).long
+
+    pub framed_few : n ≤ 32768
+    framed_few = (says_framed r n frame).few
 
     same-checks : quick_checks r (length t) i j ≡ framed_checks r (length t) n i j
     unfolding quick_checks framed_checks
@@ -146,8 +149,8 @@ module _ (r t : List ℕ) (i j : ℕ) where
           (λ l. says.right n (says-inside r t n i j whole room h l) ours ∙ sym (ask-answered r i j checks h l))
           (λ l. says.refused 8 (says_past r t n i j whole room h l) ∙ sym (ask_outside r i j checks h l)))
 
-    pub framed-asks : (o : Outcome) → Framed r t n i j o → QuickSays r t i j o
-    framed-asks o says =
+    pub framed_asks : (o : Outcome) → Framed r t n i j o → QuickSays r t i j o
+    framed_asks o says =
         record {
           refused = λ k e. says.refused k (sym same-checks ∙ e);
           allowed = λ m e. says.allowed m (sym same-checks ∙ e);

@@ -116,8 +116,8 @@ module _ (self : Body) (k j : ℕ) (st : Scan) where
         }
 
     -- the block is read to its end, so the closing does not stand in it
-    pub reach-none : (stop : ℕ) → end_of body k ≤ m → Reaches body k j st stop here
-    reach-none stop h =
+    pub reach_none : (stop : ℕ) → end_of body k ≤ m → Reaches body k j st stop here
+    reach_none stop h =
         record {
           bound = walk.bound;
           right = λ among there. record {
@@ -144,8 +144,8 @@ module _ (self : Body) (k j : ℕ) (st : Scan) where
           (is ∙ ap (scan_of here (8 * m)) (bits_some m body 0 c (omega arith) (omega arith) ∙ ap (λ (p : ℕ). take c (drop p (all_bits body))) g))
 
       module _ (next : Scan) (is : next ≡ scan_of here (8 * m) (low_bits 8 (get_or body m 0))) where
-        pub next-ready : Ready next (8 * (32 * k + 32 - (m + 1)))
-        next-ready =
+        pub next_ready : Ready next (8 * (32 * k + 32 - (m + 1)))
+        next_ready =
             subst⁻¹ (λ (x : Scan). Ready x (8 * (32 * k + 32 - (m + 1)))) is
             (ready_after here (8 * m) (8 * (32 * k + 32 - (m + 1))) (low_bits 8 (get_or body m 0))
             (ready-fewer here _ _ (omega (arith, low_bits-length 8 (get_or body m 0))) walk.ready))
@@ -156,12 +156,12 @@ module _ (self : Body) (k j : ℕ) (st : Scan) where
             some_read 8 next (le_refl 8) e (is ∙ ap (scan_of here (8 * m)) (sym (take_all 8 b (omega (arith, low_bits-length 8 (get_or body m 0))))))
 
         -- no more than j closings stand before the next one
-        pub walks-on : 8 * m + 8 + ground_level < 2 * j + 2 + next.excess → Walks (m + 1) next
-        walks-on few =
+        pub walks_on : 8 * m + 8 + ground_level < 2 * j + 2 + next.excess → Walks (m + 1) next
+        walks_on few =
             record {
               from = omega (arith, walk.from);
               upto = omega arith;
-              ready = next-ready;
+              ready = next_ready;
               bound = le_trans (rw is (scan_below here (8 * m) (low_bits 8 (get_or body m 0)))) walk.bound;
               right = λ s.
                   let read = walk.right s in
@@ -178,8 +178,8 @@ module _ (self : Body) (k j : ℕ) (st : Scan) where
             }
 
         -- more than j do: the closing stands in this byte
-        pub reach-found : (stop : ℕ) (r : Scan) → 2 * j + 2 + next.excess ≤ 8 * m + 8 + ground_level → EndsIn here (8 * m) (get_or body m 0) j r → Reaches body k j st stop r
-        reach-found stop r more ends =
+        pub reach_found : (stop : ℕ) (r : Scan) → 2 * j + 2 + next.excess ≤ 8 * m + 8 + ground_level → EndsIn here (8 * m) (get_or body m 0) j r → Reaches body k j st stop r
+        reach_found stop r more ends =
             record {
               bound = le_trans ends.bound walk.bound;
               right = λ among there. record { bound = le_trans ends.bound walk.bound; right = λ true bounds. through (record { among = among; there = there; level_first = true }) };

@@ -238,6 +238,7 @@ impl<'a> Stretch<'a> {
 }
 
 // Behind the frame: 11, 3, 8, then an answer or 9.
+#[tactic(auto, using(crate::proofs::Framing::bytes_after, crate::proofs::Framing::summary_short, crate::proofs::Framing::range_missed))]
 fn framed<'a>(
     bytes: &'a [u8],
     numbers: &'a [u16],
@@ -266,6 +267,7 @@ fn framed<'a>(
 
 // The leftmost smallest entry from i to j, by the record and its summary: a handful of blocks is read. Where the
 // summary is not the one filled from the record, some place from i to j, or 9.
+#[tactic(auto, using(crate::proofs::Framing::frame_refused, crate::proofs::Framing::framed_long, crate::proofs::Framing::framed_few, crate::proofs::Framing::framed_asks))]
 pub fn quick_ask(bytes: &[u8], summary: &[u16], i: usize, j: usize) -> Result<usize, Refusal>
     ensures { QuickSays bytes.now summary.now i j (said result) }
 {

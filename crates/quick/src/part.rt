@@ -73,6 +73,7 @@ impl<'a> Body<'a> {
     }
 
     // Where a scan begins that begins with this closing.
+    #[tactic(auto, using(crate::proofs::Closings::begins))]
     fn start(self, from: Closing) -> Start
         requires { (from.place < 8 * length self.bytes.now) × (get_or (all_bits self.bytes.now) from.place opening ≡ closing) }
         ensures { Begun self.entry.bytes.now from.place from.excess result.at result.byte result.bit result.excess }

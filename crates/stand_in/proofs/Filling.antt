@@ -1,6 +1,6 @@
 -- The walk along a record's bytes, whole ones and then the last; what it has written is the stand-in.
 -- Assumes nothing.
-use mathlib.Core.Path.{◌≡◌, refl, ◌∙◌}
+use mathlib.Core.Path.{◌≡◌, refl, ap, ◌∙◌}
 use Prim.Native.Nat.{ℕ, zero, suc, ◌+◌, ◌-◌, ◌*◌, ◌/◌, ◌%◌, ◌≤◌, ◌<◌}
 use native.Mathlib.Nat.{zero-add}
 use native.Mathlib.Omega.{arith}
@@ -16,8 +16,9 @@ use Rattle.rules.proofs.Excess.{is_balanced, counts-length}
 use Rattle.rules.proofs.StandIn.{stand_in_walk}
 use Rattle.rules.proofs.Bytes.{low_bits-length}
 use Rattle.rules.proofs.Checked.{Checked, parens-length}
+use Rattle.std.proofs.Common.{MutBor}
 use Rattle.stand_in.specs.declared.Walk.{Walk}
-use Rattle.stand_in.specs.Walk.{walked, written, Ready}
+use Rattle.stand_in.specs.Walk.{walked, Ready}
 use Rattle.stand_in.proofs.Walking.{Going, none_gone, ready_part, some_gone, written_all}
 
 -- ---- a record's parentheses byte by byte
@@ -56,12 +57,12 @@ left_none n r i l = let none : 2 * n - 8 * i ≡ 0 = omega arith in rw none
 
 -- ---- the walk along them
 
-abbrev first : Walk
-first = record { excess = 0; closed = 0 }
+abbrev first : MutBor (List ℕ) → Walk
+first o = record { column = o; excess = 0; closed = 0 }
 
 -- i whole bytes of a record are done
-abbrev pub Filling : List ℕ → ℕ → List ℕ → Walk → List ℕ → ℕ → Type 0
-Filling r n col₀ w col i = Going first (parens n r) col₀ w (left n r i) col
+abbrev pub Filling : List ℕ → ℕ → MutBor (List ℕ) → Walk → ℕ → Type 0
+Filling r n o w i = Going (first o) (parens n r) w (left n r i)
 
 module _ {r : List ℕ} {n : ℕ} (checked : Checked r n) where
   -- half of the parentheses close
@@ -88,39 +89,38 @@ module _ {r : List ℕ} {n : ℕ} (checked : Checked r n) where
       let bits : 2 * n - 8 * (n / 4) ≡ 2 * (n % 4) = omega arith in
       rw is (rw bits at (left_last n r (n / 4) (omega (arith, checked)) (omega arith)))
 
-  module _ {col₀ : List ℕ} (room : n ≤ length col₀) where
-    pub none_filled : Filling r n col₀ first col₀ 0
+  module _ {o : MutBor (List ℕ)} (room : n ≤ length o.now) where
+    pub none_filled : Filling r n o (first o) 0
     unfolding left parens
     none_filled =
         let all : 2 * n - 8 * 0 ≡ 2 * n = omega arith in
-        let ready : Ready first (parens n r) col₀ =
+        let ready : Ready (first o) (parens n r) =
         record { rest = []; balance = rw append-nil balance; few = rw append-nil (omega (arith, closed, checked)); room = rw append-nil (omega (arith, closed)) } in
         rw all (none_gone ready)
 
     -- no more parentheses
-    filled : {w : Walk} {col : List ℕ} → Going first (parens n r) col₀ w [] col → col ≡ stand_in (parens n r) ++ drop n col₀
-    unfolding written
+    filled : {w : Walk} → Going (first o) (parens n r) w [] → w.column.now ≡ stand_in (parens n r) ++ drop n o.now
+    unfolding walked
     filled g =
-        rw (zero-add, closed, ← (stand_in_walk (parens n r) checked.balance)) at (g.column ∙ written_all first (parens n r) col₀ balance (omega (arith, closed)))
+        rw (zero-add, closed, ← (stand_in_walk (parens n r) checked.balance)) at (ap (λ (w : Walk). w.column.now) g.walk ∙ written_all (first o) (parens n r) balance (omega (arith, closed)))
 
-  module _ {col₀ : List ℕ} {w : Walk} {col : List ℕ} {i : ℕ} (f : Filling r n col₀ w col i) where
+  module _ {o : MutBor (List ℕ)} {w : Walk} {i : ℕ} (f : Filling r n o w i) where
     -- one more whole byte
-    pub byte-ready : i < length (whole_bytes r n) → Ready w (low_bits 8 (get_or (whole_bytes r n) i 0)) col
+    pub byte-ready : i < length (whole_bytes r n) → Ready w (low_bits 8 (get_or (whole_bytes r n) i 0))
     byte-ready more = ready_part _ _ (rw (next i more) at f.ready)
 
-    pub byte-filled : {w' : Walk} {col' : List ℕ} → i < length (whole_bytes r n) → w' ≡ walked w (low_bits 8 (get_or (whole_bytes r n) i 0))
-        → col' ≡ written w (low_bits 8 (get_or (whole_bytes r n) i 0)) col → Filling r n col₀ w' col' (i + 1)
-    byte-filled more e g =
-        rw (e, g) (some_gone (low_bits 8 (get_or (whole_bytes r n) i 0)) (left n r (i + 1)) (rw (next i more) at f))
+    pub byte-filled : {w' : Walk} → i < length (whole_bytes r n) → w' ≡ walked w (low_bits 8 (get_or (whole_bytes r n) i 0)) → Filling r n o w' (i + 1)
+    byte-filled more e = rw e (some_gone (low_bits 8 (get_or (whole_bytes r n) i 0)) (left n r (i + 1)) (rw (next i more) at f))
 
     -- what the last byte has
-    pub last-ready : length (whole_bytes r n) ≤ i → i ≤ length (whole_bytes r n) → 0 < n % 4 → Ready w (low_bits (2 * (n % 4)) (get_or r (4 + n / 4) 0)) col
+    pub last-ready : length (whole_bytes r n) ≤ i → i ≤ length (whole_bytes r n) → 0 < n % 4 → Ready w (low_bits (2 * (n % 4)) (get_or r (4 + n / 4) 0))
     last-ready done within some = rw (last i done within some) at f.ready
 
-    module _ (room : n ≤ length col₀) (done : length (whole_bytes r n) ≤ i) (within : i ≤ length (whole_bytes r n)) where
-      pub last-filled : {col' : List ℕ} → 0 < n % 4 → col' ≡ written w (low_bits (2 * (n % 4)) (get_or r (4 + n / 4) 0)) col → col' ≡ stand_in (parens n r) ++ drop n col₀
-      last-filled some g =
-          rw g (filled room (some_gone (low_bits (2 * (n % 4)) (get_or r (4 + n / 4) 0)) [] (rw append-nil (rw (last i done within some) at f))))
+    module _ (room : n ≤ length o.now) (done : length (whole_bytes r n) ≤ i) (within : i ≤ length (whole_bytes r n)) where
+      pub last-filled : {w' : Walk} {col : List ℕ} → 0 < n % 4 → w' ≡ walked w (low_bits (2 * (n % 4)) (get_or r (4 + n / 4) 0)) → col ≡ w'.column.now
+          → col ≡ stand_in (parens n r) ++ drop n o.now
+      last-filled some e is =
+          rw (is, e) (filled {o = o} room (some_gone (low_bits (2 * (n % 4)) (get_or r (4 + n / 4) 0)) [] (rw append-nil (rw (last i done within some) at f))))
 
-      pub none_left : n % 4 ≤ 0 → col ≡ stand_in (parens n r) ++ drop n col₀
-      none_left z = filled room (rw (left_none n r i (omega (arith, count))) at f)
+      pub none_left : {col : List ℕ} → n % 4 ≤ 0 → col ≡ w.column.now → col ≡ stand_in (parens n r) ++ drop n o.now
+      none_left z is = rw is (filled {o = o} room (rw (left_none n r i (omega (arith, count))) at f))

@@ -5,7 +5,7 @@ ghost use Rattle.std.specs.Prelude.{◌≡◌, ◌≤◌, ◌++◌, length, drop
 ghost use Rattle.rules.specs.StandIn.{stand_in};
 ghost use Rattle.rules.specs.Bytes.{low_bits, parens};
 ghost use Rattle.stand_in.specs.StandsIn.{StandsIn};
-ghost use Rattle.stand_in.specs.Walk.{Ready, walked, written};
+ghost use Rattle.stand_in.specs.Walk.{Ready, walked};
 
 use answers::Refusal;
 use checks::record::Record;
@@ -23,32 +23,32 @@ pub fn stand_in(bytes: &[u8], column: &mut [u32]) -> Result<usize, Refusal>
     Ok(checked.entries)
 }
 
-// How far the walk along the parentheses is: the excess now, and the closings that it has passed.
-#[derive(Clone, Copy)]
-struct Walk {
+// How far the walk along the parentheses is: the column that it writes, the excess now, and the closings passed.
+#[derive(Drop)]
+struct Walk<'a> {
+    column: &'a mut [u32],
     excess: u32,
     closed: usize,
 }
 
-impl Walk {
+impl Walk<'_> {
     // Along the lowest bits of byte b, count of them. No bit decides a branch: each excess is stored, and only a
     // closing moves on to the next place.
-    fn bits(self, column: &mut [u32], b: u8, count: usize) -> Walk
-        requires { Ready self (low_bits count b) column.old }
-        ensures { (result ≡ walked self (low_bits count b)) × (column.new ≡ written self (low_bits count b) column.old) }
+    #[inline(always)]
+    fn bits(&mut self, b: u8, count: usize)
+        requires { Ready self.old (low_bits count b) }
+        ensures lent { self.new.column.ghost_name ≡ self.old.column.ghost_name }
+        ensures walks { self.new ≡ walked self.old (low_bits count b) }
     {
-        let mut excess = self.excess;
-        let mut closed = self.closed;
         let mut rest = u32::from(b);
         for _ in 0..count {
             let opens = rest % 2;
             let closes = 1 - opens;
-            excess = excess + opens - closes;
-            column[closed] = excess;
-            closed += closes as usize;
+            self.excess = self.excess + opens - closes;
+            self.column[self.closed] = self.excess;
+            self.closed += closes as usize;
             rest /= 2;
         }
-        Walk { excess, closed }
     }
 }
 
@@ -61,13 +61,14 @@ fn fill(checked: Record, column: &mut [u32])
     let last = 4 + n / 4;
     let whole = &checked.bytes[4..last];
     let mut walk = Walk {
+        column,
         excess: 0,
         closed: 0,
     };
     for &b in whole {
-        walk = walk.bits(column, b, 8);
+        walk.bits(b, 8);
     }
     if 0 < n % 4 {
-        walk.bits(column, checked.bytes[last], 2 * (n % 4));
+        walk.bits(checked.bytes[last], 2 * (n % 4));
     }
 }

@@ -4,17 +4,17 @@ use native.Mathlib.Omega.{arith}
 use Rattle.stand_in.proofs.Walking.{next, bit_gone, all_gone}
 use Rattle.stand_in.proofs.Walk.bits.Goals as goal
 
-pub overflow_add-excess : goal.overflow_add-excess
-overflow_add-excess c = omega (arith, next _ _ _ c.loop-test.true c.loop.invariant.ready)
+pub overflow_add-self : goal.overflow_add-self
+overflow_add-self c = omega (arith, next _ _ _ c.loop-test.true c.loop.invariant.1.ready)
 
-pub overflow_sub-excess : goal.overflow_sub-excess
-overflow_sub-excess c = (next _ _ _ c.loop-test.true c.loop.invariant.ready).above
+pub overflow_sub-self : goal.overflow_sub-self
+overflow_sub-self c = (next _ _ _ c.loop-test.true c.loop.invariant.1.ready).above
 
-pub bounds-column-closed : goal.bounds-column-closed
-bounds-column-closed c = (next _ _ _ c.loop-test.true c.loop.invariant.ready).within
+pub bounds-self-self : goal.bounds-self-self
+bounds-self-self c = (next _ _ _ c.loop-test.true c.loop.invariant.1.ready).within
 
 pub loop-preserved : goal.loop-preserved
-loop-preserved c = bit_gone _ _ _ c.loop-test.true c.loop.invariant
+loop-preserved c = (c.loop.invariant.0, bit_gone _ _ _ c.loop-test.true c.loop.invariant.1)
 
-pub returns : goal.returns
-returns c = all_gone _ _ _ c.loop-test.false c.loop.invariant
+pub returns-clause-walks : goal.returns-clause-walks
+returns-clause-walks c = all_gone _ _ _ c.loop-test.false c.loop.invariant.1

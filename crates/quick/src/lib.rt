@@ -24,7 +24,7 @@ use tree::Best;
 // summary says.
 const GROUND: usize = 131072;
 
-// A record's body, and beside it the numbers that are lent as its summary.
+// A record's body, and beside it the numbers that are lent as its summary, of sixteen bits each.
 #[derive(Clone, Copy)]
 struct Lent<'a> {
     body: Body<'a>,

@@ -72,7 +72,7 @@ impl<'a> Body<'a> {
         self.bytes.len().min(32 * k + 32)
     }
 
-    // Where a scan begins that begins with this closing.
+    // The start of a scan at this closing.
     #[tactic(auto, using(crate::proofs::Closings::begins))]
     fn start(self, from: Closing) -> Start
         requires { (from.place < 8 * length self.bytes.now) × (get_or (all_bits self.bytes.now) from.place opening ≡ closing) }

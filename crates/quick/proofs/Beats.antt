@@ -7,6 +7,8 @@ use native.Mathlib.Numerals.{add-one}
 use native.Mathlib.Omega.{arith}
 use mathlib.Core.Bool.{Bool, true, false, cond}
 use mathlib.Core.List.{List, [], ◌∷◌, ◌++◌}
+use mathlib.Core.Logic.{⊎_elim}
+use Rattle.std.proofs.lemmas.Bool.{cases_lt}
 use borrow.Author.Tests.{ltb-true, ltb-false}
 use lib.Dec.{ltb}
 use lib.ListN.{length, take, drop, get_or, length-drop}
@@ -20,11 +22,7 @@ use Rattle.scan.proofs.Laws.{scan-append}
 use Rattle.quick.specs.Lowest.{Lowest, Beats}
 
 pub split : (a b : ℕ) {A : Type 0} → (a < b → A) → (b ≤ a → A) → A
-split a b {A} f g = by (ltb a b) refl
-  where
-    by : (t : Bool) → ltb a b ≡ t → A
-    by true e = f (ltb-true a b e)
-    by false e = g (ltb-false a b e)
+split a b f g = ⊎_elim f g (cases_lt a b)
 
 module _ (X : ℕ → ℕ) where
   -- nothing has been read yet

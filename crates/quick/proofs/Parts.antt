@@ -1,18 +1,19 @@
 -- What the parts of a body give when they are read: bytes from one place to another, and the byte in which a closing stands.
 -- Assumes nothing.
-use mathlib.Core.Path.{◌≡◌, refl, sym, ap, subst, subst⁻¹, ◌∙◌}
+use mathlib.Core.Path.{◌≡◌, sym, ap, subst, subst⁻¹, ◌∙◌}
 use mathlib.Core.Logic.{⊎_elim}
-use Prim.Native.Nat.{ℕ, zero, suc, ◌+◌, ◌-◌, ◌*◌, ◌≤◌, ◌<◌}
+use Prim.Native.Nat.{ℕ, suc, ◌+◌, ◌-◌, ◌*◌, ◌≤◌, ◌<◌}
 use native.Mathlib.Nat.{le_refl, le_trans}
 use native.Mathlib.Numerals.{add-one}
 use native.Mathlib.Omega.{arith}
-use mathlib.Core.List.{List, [], ◌∷◌, ◌++◌}
-use lib.ListN.{length, take, drop, get_or, length-drop, take-append-drop}
-use lib.Seq.{take_at, drop_at, take-take, drop-drop, length-take-le, drop-cons, take_all}
+use mathlib.Core.List.{List}
+use lib.ListN.{length, take, drop, get_or, length-drop}
+use lib.Seq.{take_at, take-take, drop-drop, length-take-le, drop-cons, take_all}
 use Rattle.rules.specs.Shape.{Paren}
 use Rattle.rules.specs.Excess.{excess}
 use Rattle.rules.specs.Bytes.{low_bits, all_bits}
-use Rattle.rules.proofs.Bytes.{low_bits-length, all_bits-length, all_bits-append}
+use Rattle.std.proofs.lemmas.List.{drop-take}
+use Rattle.rules.proofs.Bytes.{low_bits-length, all_bits-length, all_bits-take, all_bits-drop}
 use Rattle.scan.specs.declared.Scan.{Scan}
 use Rattle.scan.specs.Scan.{scan_of}
 use Rattle.ask.specs.Byte.{begun}
@@ -23,30 +24,17 @@ use Rattle.quick.proofs.Beats.{beats_idle, beats-join, low_join, Scanned, scanne
 
 -- ---- bits of a part
 
-pub bits-take : (m : ℕ) (bs : List ℕ) → m ≤ length bs → all_bits (take m bs) ≡ take (8 * m) (all_bits bs)
-bits-take m bs h =
-    let e : all_bits (take m bs) ++ all_bits (drop m bs) ≡ all_bits bs = sym (all_bits-append (take m bs) (drop m bs)) ∙ ap all_bits (take-append-drop m bs) in
-    let l : length (all_bits (take m bs)) ≡ 8 * m = all_bits-length (take m bs) ∙ ap (8 *◌) (length-take-le m bs h) in
-    sym (take_at (all_bits (take m bs)) (all_bits (drop m bs)) (8 * m) l) ∙ ap (take (8 * m)) e
-
-pub bits-drop : (m : ℕ) (bs : List ℕ) → m ≤ length bs → all_bits (drop m bs) ≡ drop (8 * m) (all_bits bs)
-bits-drop m bs h =
-    let e : all_bits (take m bs) ++ all_bits (drop m bs) ≡ all_bits bs = sym (all_bits-append (take m bs) (drop m bs)) ∙ ap all_bits (take-append-drop m bs) in
-    let l : length (all_bits (take m bs)) ≡ 8 * m = all_bits-length (take m bs) ∙ ap (8 *◌) (length-take-le m bs h) in
-    sym (drop_at (all_bits (take m bs)) (all_bits (drop m bs)) (8 * m) l) ∙ ap (drop (8 * m)) e
-
 pub bits-byte : (m : ℕ) (bs : List ℕ) → m < length bs → low_bits 8 (get_or bs m 0) ≡ take 8 (drop (8 * m) (all_bits bs))
 unfolding all_bits
 bits-byte m bs h =
     sym (take_at (low_bits 8 (get_or bs m 0)) (all_bits (drop (suc m) bs)) 8 (low_bits-length 8 (get_or bs m 0)))
-    ∙ ap (take 8) (sym (ap all_bits (drop-cons bs m 0 h)) ∙ bits-drop m bs (omega arith))
+    ∙ ap (take 8) (sym (ap all_bits (drop-cons bs m 0 h)) ∙ all_bits-drop m bs)
 
 -- some of the first n
 some_of : {A : Type 0} (k x n : ℕ) (w : List A) → x + k ≤ n → take k (drop x (take n w)) ≡ take k (drop x w)
-some_of k zero n w h = take-take k n w (omega arith)
-some_of k (suc x) zero w h = absurd (omega arith)
-some_of k (suc x) (suc n) [] h = refl
-some_of k (suc x) (suc n) (q ∷ w) h = some_of k x n w (omega arith)
+some_of k x n w h =
+    let e : x + (n - x) ≡ n = omega arith in
+    ap (take k) (rw e at (drop-take x (n - x) w)) ∙ take-take k (n - x) (drop x w) (omega arith)
 
 -- k bits of byte m from bit x on
 pub bits_some : (m : ℕ) (bs : List ℕ) (x k : ℕ) → m < length bs → x + k ≤ 8 → take k (drop x (low_bits 8 (get_or bs m 0))) ≡ take k (drop (8 * m + x) (all_bits bs))
@@ -105,7 +93,7 @@ module _ (self : Body) where
         let c = runs.count in
         let h = some in
         reads st (8 * f) (8 * c) (omega arith) true
-        (runs.read ∙ ap (scan_of st (8 * f)) (ap all_bits (take-take c w (drop f body) h) ∙ bits-take c (drop f body) (omega (arith, length-drop f body)) ∙ ap (take (8 * c)) (bits-drop f body (omega arith))))
+        (runs.read ∙ ap (scan_of st (8 * f)) (ap all_bits (take-take c w (drop f body) h) ∙ all_bits-take c (drop f body) ∙ ap (take (8 * c)) (all_bits-drop f body)))
 
     pub ran-through : stop < r.smallest → Reads st (8 * f) (8 * w) r
     ran-through h =

@@ -1,24 +1,21 @@
 -- Where a closing stands in a block: by the bits of the block for any bytes, and the right one for a record's own summary.
 -- Assumes nothing.
 use mathlib.Core.Path.{◌≡◌, refl, sym, ap, ◌∙◌}
-use mathlib.Core.Logic.{◌⊎◌, inl, inr}
 use Prim.Native.Nat.{ℕ, ◌+◌, ◌-◌, ◌*◌, ◌/◌, ◌≤◌, ◌<◌}
 use native.Mathlib.Nat.{eq-zero-or-pos}
 use native.Mathlib.Omega.{arith}
-use mathlib.Core.Bool.{Bool, true, false}
 use mathlib.Core.Logic.{⊎_elim}
 use mathlib.Core.List.{List}
 use Rattle.std.specs.Prelude.{Option, Some, None, Ok, Err, IsSomeAnd}
 use Rattle.answers.specs.declared.Refusal.TheVariants.{Foreign}
 use Rattle.answers.specs.Said.{Answer}
-use borrow.Author.Tests.{lt-ltb, ltb-true, ltb-false}
-use lib.Dec.{ltb}
+use borrow.Author.Tests.{lt-ltb}
 use lib.ListN.{length, take, drop, get_or, length-drop, length-take}
 use lib.Seq.{take_all, take-take, get_or-take, get_or-drop}
 use Rattle.rules.specs.Shape.{opening, closing}
 use Rattle.rules.specs.Excess.{closings, closing_place}
 use Rattle.rules.specs.Bytes.{all_bits}
-use Rattle.rules.proofs.Bytes.{all_bits-length}
+use Rattle.rules.proofs.Bytes.{all_bits-length, all_bits-take, all_bits-drop}
 use Rattle.rules.proofs.ClosingPlace.{closing-within}
 use Rattle.rules.proofs.Parts.{closing-closes}
 use Rattle.rules.proofs.Blocks.{closing-from, in_block_lem, excess-closings}
@@ -28,34 +25,23 @@ use Rattle.quick.specs.declared.Lent.{Lent}
 use Rattle.quick.specs.Part.{end_of, Block, ClosingAt}
 use Rattle.quick.specs.Quick.{parens_in, Ours, closing_in}
 use Rattle.quick.specs.Stretch.{body, numbers, Stands}
-use Rattle.quick.proofs.Parts.{bits-take, bits-drop}
+use Rattle.quick.proofs.Beats.{split}
 use Rattle.quick.proofs.Ours.{closings_n, closings_all, closing_same, closing_low}
 
 -- ---- the bits of block k
 
 module _ (body : List ℕ) (k : ℕ) (block : Block body k) where
-  pub block-bits : all_bits (take (end_of body k - 32 * k) (drop (32 * k) body)) ≡ take 256 (drop (256 * k) (all_bits body))
+  block-bits : all_bits (take (end_of body k - 32 * k) (drop (32 * k) body)) ≡ take 256 (drop (256 * k) (all_bits body))
   block-bits =
       let s = block.starts in
       let w = end_of body k - 32 * k in
       let e : 8 * (32 * k) ≡ 256 * k = omega arith in
       let d : length (drop (256 * k) (all_bits body)) ≡ 8 * length body - 256 * k = length-drop (256 * k) (all_bits body) ∙ ap (◌- 256 * k) (all_bits-length body) in
-      bits-take w (drop (32 * k) body) (omega (arith, length-drop (32 * k) body))
-      ∙ ap (take (8 * w)) (bits-drop (32 * k) body s ∙ ap (λ (p : ℕ). drop p (all_bits body)) e)
-      ∙ same w d (split (32 * k + 32) (length body))
-    where
-      split : (a b : ℕ) → (a ≤ b) ⊎ (b < a)
-      split a b = by (ltb b a) refl
-        where
-          by : (x : Bool) → ltb b a ≡ x → (a ≤ b) ⊎ (b < a)
-          by true e = inr (ltb-true b a e)
-          by false e = inl (ltb-false b a e)
-
-      same : (w : ℕ) → length (drop (256 * k) (all_bits body)) ≡ 8 * length body - 256 * k → ((32 * k + 32 ≤ length body) ⊎ (length body < 32 * k + 32))
-          → take (8 * (end_of body k - 32 * k)) (drop (256 * k) (all_bits body)) ≡ take 256 (drop (256 * k) (all_bits body))
-      same w d (inl h) = let e : 8 * (end_of body k - 32 * k) ≡ 256 = omega arith in rw e
-      same w d (inr h) =
-          take_all (8 * (end_of body k - 32 * k)) (drop (256 * k) (all_bits body)) (omega arith) ∙ sym (take_all 256 (drop (256 * k) (all_bits body)) (omega arith))
+      all_bits-take w (drop (32 * k) body)
+      ∙ ap (take (8 * w)) (rw e at (all_bits-drop (32 * k) body))
+      ∙ split (length body) (32 * k + 32)
+      (λ h. take_all (8 * w) (drop (256 * k) (all_bits body)) (omega arith) ∙ sym (take_all 256 (drop (256 * k) (all_bits body)) (omega arith)))
+      (λ h. let f : 8 * w ≡ 256 = omega arith in rw f)
 
   bits-length : length (take 256 (drop (256 * k) (all_bits body))) ≡ 8 * (end_of body k - 32 * k)
   bits-length =

@@ -5,9 +5,8 @@
 
 mod part;
 
-ghost use Rattle.std.specs.Prelude.{◌≡◌, ℕ, ◌+◌, ◌*◌, ◌≤◌, ◌<◌, length, get_or};
+ghost use Rattle.std.specs.Prelude.{◌≡◌, ◌+◌, ◌*◌, ◌≤◌, ◌<◌, length, get_or};
 ghost use Rattle.tree.specs.Tree.{Between};
-ghost use Rattle.blocks.specs.Search.{Before};
 ghost use Rattle.answers.specs.Said.{said};
 ghost use Rattle.rules.specs.Bytes.{bytes_for, record_length};
 ghost use Rattle.rules.specs.Summary.{QuickSays};
@@ -24,12 +23,11 @@ use tree::Best;
 // summary says.
 const GROUND: usize = 131072;
 
-// A record's body, and beside it the numbers that are lent as its summary, of sixteen bits each.
+// A record's body, and beside it the numbers that are lent as its summary.
 #[derive(Clone, Copy)]
 struct Lent<'a> {
     body: Body<'a>,
     summary: Summary<'a>,
-    ghost small: { (m : ℕ) → get_or summary.numbers.now m 0 ≤ 65535 },
 }
 
 impl<'a> Lent<'a> {
@@ -43,14 +41,6 @@ impl<'a> Lent<'a> {
         GROUND + self.summary.leaf(k)
     }
 
-    // The excess before block k.
-    fn before(&self, k: usize) -> usize
-        requires { k ≤ 255 }
-        ensures { Before self.now.summary.numbers.now k result × (result ≤ 65535) }
-    {
-        blocks::before(self.summary, k)
-    }
-
     // The place where closing number i stands, in block k: by the excess before the block, and the block's bits.
     // Inlined, since each caller tells at once which it is, and neither goes through memory.
     #[inline(always)]
@@ -58,7 +48,7 @@ impl<'a> Lent<'a> {
         requires { Block self.now.body.bytes.now k × (i < 32768) }
         ensures { Stands self.now k i result }
     {
-        let e = self.before(k);
+        let e = blocks::before(self.summary, k);
         let twice = (2 * i + e).checked_sub(256 * k).ok_or(Refusal::Foreign)?;
         let from = 32 * k;
         let end = self.body.end_of(k);
@@ -145,7 +135,7 @@ impl<'a> Stretch<'a> {
             return best;
         }
         let start = Scan {
-            excess: GROUND + self.lent.before(self.b),
+            excess: GROUND + blocks::before(self.lent.summary, self.b),
             smallest: best.smallest,
             place: best.place,
         };
@@ -172,7 +162,7 @@ impl<'a> Stretch<'a> {
             return self.entry(end);
         }
         let k = tree::descend(self.lent.summary, best.node, best.level);
-        let before = GROUND + self.lent.before(k);
+        let before = GROUND + blocks::before(self.lent.summary, k);
         self.entry(self.lent.body.whole(k, before, mid))
     }
 

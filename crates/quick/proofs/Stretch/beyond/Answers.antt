@@ -16,5 +16,5 @@ returns c =
     let s = c.args.self.now in
     record {
       allowed = c.entry-2.ensures.allowed;
-      right = λ n asks first more. named s n asks c.entry-2.ensures (inner-wins s n asks c.args.best (c.requires.1.some more) more first c.descend-k.result c.descend-k.ensures c.finish-end.result c.whole.result c.before-before.result c.finish-end.ensures c.if-end-mid.false c.before-before.ensures.0 c.whole.ensures);
+      right = λ n asks first more. named s n asks c.entry-2.ensures (inner-wins s n asks c.args.best (c.requires.1.some more) more first c.descend-k.result c.descend-k.ensures c.finish-end.result c.whole.result c.before-before.result c.finish-end.ensures c.if-end-mid.false c.before-before.ensures c.whole.ensures);
     }

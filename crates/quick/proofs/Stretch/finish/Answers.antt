@@ -8,4 +8,4 @@ returns-then-best-low c = not_lower c.args.self.now c.leaf-low.result c.leaf-low
 
 pub returns : goal.returns
 returns c =
-    finished c.args.self.now c.leaf-low.result c.leaf-low.ensures.0 c.args.best c.before-2.result c.upto.result c.before-2.ensures.0 c.upto.ensures
+    finished c.args.self.now c.leaf-low.result c.leaf-low.ensures.0 c.args.best c.before-2.result c.upto.result c.before-2.ensures c.upto.ensures

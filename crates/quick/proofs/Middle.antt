@@ -9,7 +9,7 @@ use lib.ListN.{get_or}
 use Rattle.rules.specs.Excess.{entry_between}
 use Rattle.rules.specs.Refusal.{Outcome}
 use Rattle.tree.specs.declared.Best.{Best}
-use Rattle.tree.specs.Tree.{leaf, Held, Between, Descended}
+use Rattle.tree.specs.Tree.{leaf, Held, Descended}
 use Rattle.tree.proofs.Down.{Leftmost, comes_down}
 use Rattle.scan.specs.declared.Scan.{Scan}
 use Rattle.blocks.specs.Search.{Before}
@@ -24,10 +24,6 @@ use Rattle.quick.proofs.Ours.{level_own, leaf-bounds, leaf-there, halves_own, cl
 -- the slot of a leaf
 pub leaf-slot : (t : List ℕ) (x : ℕ) → leaf t x ≡ get_or t (512 + x) 0
 leaf-slot t x = let e : 256 + (256 + x) ≡ 512 + x = omega arith in ap (λ (k : ℕ). get_or t k 0) e
-
--- the number of the lowest node between, or one above any
-pub best_low : {t : List ℕ} {a b : ℕ} {best : Best} → a < b → Between t a b best → best.low ≤ 65536
-best_low {t} {a} {b} {best} h held = split (a + 1) b (λ u. omega (arith, (held.some u).bound)) (λ u. omega (arith, held.none (omega arith)))
 
 module _ (s : Stretch) (n : ℕ) (asks : Asks s n) where
   abbrev bytes : List ℕ

@@ -1,6 +1,6 @@
 -- Up to a closing that is met on the way: the bytes of a block are read until more closings are counted than stand before it.
 -- Assumes nothing.
-use mathlib.Core.Path.{◌≡◌, refl, sym, ap, subst⁻¹, ◌∙◌}
+use mathlib.Core.Path.{◌≡◌, sym, ap, subst⁻¹, ◌∙◌}
 use Prim.Native.Nat.{ℕ, ◌+◌, ◌-◌, ◌*◌, ◌/◌, ◌≤◌, ◌<◌}
 use native.Mathlib.Nat.{le_refl, le_trans}
 use native.Mathlib.Omega.{arith}
@@ -20,7 +20,7 @@ use Rattle.scan.proofs.Laws.{ready_after, ready-fewer, scan_below}
 use Rattle.quick.specs.declared.part.Body.{Body}
 use Rattle.quick.specs.Lowest.{Beats}
 use Rattle.quick.specs.Part.{ground_level, height, level, end_of, EndsIn, Reaches}
-use Rattle.quick.proofs.Beats.{beats_none, beats_idle, beats-join}
+use Rattle.quick.proofs.Beats.{beats-join}
 use Rattle.quick.proofs.Parts.{bits-byte, bits_some, Reads, reads}
 
 -- ---- the byte of the closing
@@ -29,13 +29,7 @@ pub place_low : (b i : ℕ) → i < closings (low_bits 8 b) → closing_place (l
 place_low b i h = omega (arith, closing-within (low_bits 8 b) i h, low_bits-length 8 b)
 
 module _ (here : Scan) (at b j : ℕ) where
-  -- where the closing is not in this byte, the excess was no true one
-  pub ends_before : 2 * j + here.excess < at + ground_level → EndsIn here at b j here
-  ends_before h = record { bound = le_refl _; right = λ i e l. absurd (omega arith) }
-
-  pub ends_behind : closings (low_bits 8 b) ≤ (2 * j + here.excess - (at + ground_level)) / 2 → EndsIn here at b j here
-  ends_behind h = record { bound = le_refl _; right = λ i e l. absurd (omega arith) }
-
+  -- up to the closing, where it is in this byte; where it is not, the excess was no true one
   pub ends_there : (x : ℕ) (r : Scan) → x ≡ closing_place (low_bits 8 b) ((2 * j + here.excess - (at + ground_level)) / 2)
       → r ≡ scan_of here at (take (x + 1) (low_bits 8 b)) → EndsIn here at b j r
   ends_there x r stands is =
@@ -82,39 +76,8 @@ module _ (self : Body) (k j : ℕ) (st : Scan) where
     pub bound : here.smallest ≤ st.smallest
     pub right : Sought → Read m here
 
-  pub walks_none : 32 * k ≤ length body → Ready st 256 → Walks (32 * k) st
-  walks_none starts ready =
-      let e : 8 * (32 * k) ≡ 256 * k = omega arith in
-      record {
-        from = le_refl _;
-        upto = omega arith;
-        ready = ready-fewer st _ 256 (omega arith) ready;
-        bound = le_refl _;
-        right = λ s.
-            let t = s.there in
-            record {
-              level-now = s.level_first ∙ ap (level body) (sym e);
-              beats = rw e (beats_none (height body) (256 * k) st.smallest st.place st refl refl);
-              ahead = omega arith;
-            };
-      }
-
   module _ (m : ℕ) (here : Scan) (walk : Walks m here) where
     -- it has come as low as stop
-    pub reach-stopped : (stop : ℕ) → here.smallest ≤ stop → Reaches body k j st stop here
-    reach-stopped stop low =
-        record {
-          bound = walk.bound;
-          right = λ among there. record {
-            bound = walk.bound;
-            right = λ true bounds.
-                let read = walk.right (record { among = among; there = there; level_first = true }) in
-                let f = walk.from in
-                let a = read.ahead in
-                beats-join (height body) read.beats (beats_idle (height body) (8 * m) (at_j + 1) here (λ p g l. le_trans low (bounds p (omega arith) l))) (omega arith) (omega arith);
-          };
-        }
-
     -- the block is read to its end, so the closing does not stand in it
     pub reach_none : (stop : ℕ) → end_of body k ≤ m → Reaches body k j st stop here
     reach_none stop h =

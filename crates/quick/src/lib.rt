@@ -42,7 +42,7 @@ impl<'a> Lent<'a> {
     }
 
     // The place where closing number i stands, in block k: by the excess before the block, and the block's bits.
-    // Inlined, since each caller tells at once which it is, and neither goes through memory.
+    // Inlined at each call, so that its result never goes through memory.
     #[inline(always)]
     fn stands(&self, k: usize, i: usize) -> Result<usize, Refusal>
         requires { Block self.now.body.bytes.now k × (i < 32768) }

@@ -2,7 +2,7 @@
 -- tree's parentheses are written but the spine's openings. Assumes nothing.
 use mathlib.Core.Path.{◌≡◌, ap, ◌∙◌}
 use Prim.Native.Nat.{ℕ, suc, ◌+◌, ◌-◌, ◌*◌, ◌%◌, ◌≤◌, ◌<◌}
-use native.Mathlib.Nat.{sub_self, sub-zero, le_refl}
+use native.Mathlib.Nat.{sub_self, sub-zero}
 use native.Mathlib.Numerals.{add-one}
 use native.Mathlib.Omega.{arith}
 use mathlib.Core.List.{List, [], ◌∷◌, ◌++◌}
@@ -10,7 +10,7 @@ use borrow.Author.Count.{below_more}
 use lib.Arith.{le-zero}
 use lib.ListN.{length, drop, get_or, set, replicate, length-set, length-replicate}
 use lib.Seq.{drop-cons, drop-length, take-nil, get_or-set_same, get_or-set_other}
-use Rattle.rules.specs.Shape.{Paren, opening, closing}
+use Rattle.rules.specs.Shape.{opening, closing}
 use Rattle.rules.specs.Bytes.{most, bits, bytes_of, bytes_for}
 use Rattle.theory.proofs.Tree.{Tree, push, tree_of, spine}
 use Rattle.theory.proofs.Spine.{rest, written-rest, kept, spine-push, rest-push, rises, Lies, lies_push, kept_is}
@@ -20,8 +20,7 @@ use Rattle.build.specs.declared.pen.Pen.{Pen}
 use Rattle.build.specs.declared.spine.Spine.{Spine}
 use Rattle.build.specs.Body.{Taken, Bodied}
 use Rattle.build.specs.Stack.{entry_at, Stacked, Keeps}
-use Rattle.build.specs.Writes.{Penned, Ready, Writes}
-use Rattle.build.proofs.Writing.{goes_on}
+use Rattle.build.specs.Writes.{Penned, Writes}
 
 -- the entries from i on had their turns: their tree's left spine is on the stack, and the rest of its parentheses is written. What is still
 -- to be written has room: an opening and a closing for each entry to come, and the openings of the spine.
@@ -56,19 +55,6 @@ none_turned c o w taken =
       work = taken.work;
       output = taken.output;
     }
-
--- what is still to be written has room, at the turn's beginning and within it
-pub ready : {c : List ℕ} {p : Pen} {q : Spine} {i k : ℕ} → Turned c p q i → k ≤ 2 * i + q.height → Ready p k
-ready u le =
-    record {
-      s = _;
-      penned = u.penned;
-      room = omega arith;
-    }
-
-pub ready_after : {c : List ℕ} {a : List Paren} {p p' : Pen} {q : Spine} {i k : ℕ}
-    → Turned c p q i → Writes a p p' → length a + k ≤ 2 * i + q.height → Ready p' k
-ready_after {a = a} {k = k} u w le = goes_on (ready {k = length a + k} u le) w (le_refl (length a + k))
 
 -- a turn: the tree gets one more entry
 pub one-turned : {c : List ℕ} {p p' p'' : Pen} {q q' : Spine} {i k : ℕ}

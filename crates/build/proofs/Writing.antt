@@ -2,7 +2,7 @@
 -- Assumes nothing.
 use mathlib.Core.Path.{◌≡◌, refl, ap, sym, ◌∙◌}
 use Prim.Native.Nat.{ℕ, suc, ◌+◌, ◌-◌, ◌*◌, ◌%◌, ◌^◌, ◌≤◌, ◌<◌}
-use native.Mathlib.Nat.{mod-eq_of_lt, lt_of_lt_of_le, sub_self, sub-zero}
+use native.Mathlib.Nat.{mod-eq_of_lt, lt_of_lt_of_le, sub-zero}
 use native.Mathlib.Numerals.{add-one}
 use native.Mathlib.Omega.{arith}
 use mathlib.Core.List.{List, [], ◌∷◌, ◌++◌, append_assoc}
@@ -119,14 +119,6 @@ pub record Opening (count : ℕ) (p : Pen) (more : ℕ) (q : Pen) : Type 0 where
   pub fewer : more ≤ count
   pub ready : Ready q more
   pub writes : Writes (replicate (count - more) opening) p q
-
-pub none_opened : {count : ℕ} {p : Pen} → Ready p count → Opening count p count p
-none_opened {count} r =
-    record {
-      fewer = omega arith;
-      ready = r;
-      writes = rw sub_self (record { room = omega arith; same = refl; front = λ w. w });
-    }
 
 pub more-opened : (j : ℕ) {count more i : ℕ} {p q q' : Pen} → Opening count p more q → i + j ≡ more → Writes (replicate j opening) q q' → Opening count p i q'
 more-opened j {count} {more} {i} u e w =

@@ -33,7 +33,8 @@ returns-in_err-k c =
 pub returns-then-k-ge64 : goal.returns-then-k-ge64
 unfolding append_says
 returns-then-k-ge64 c =
-    refused _ _ _ _ _ (simp (le-ltb _ _ c.if-buffer-gt65536.false, le-ltb _ _ c.if-buffer-used.false, ← c.in_ok-k.ensures, le-ltb _ _ c.if-k-ge64.true))
+    let full : 64 ≤ c.in_ok-k.k = omega arith in
+    refused _ _ _ _ _ (simp (le-ltb _ _ c.if-buffer-gt65536.false, le-ltb _ _ c.if-buffer-used.false, ← c.in_ok-k.ensures, le-ltb _ _ full))
 
 pub returns-in_err-length : goal.returns-in_err-length
 returns-in_err-length c =

@@ -1,7 +1,7 @@
 -- `drawer::find` meets its contract: each record that is passed is one fewer to pass.
 -- Assumes nothing.
 use mathlib.Core.Path.{◌≡◌, sym, ap, ◌∙◌}
-use Prim.Native.Nat.{suc, ◌+◌, ◌-◌}
+use Prim.Native.Nat.{suc, ◌+◌, ◌-◌, ◌≤◌}
 use native.Mathlib.Nat.{sub-zero}
 use native.Mathlib.Omega.{arith}
 use borrow.Author.Tests.{lt-ltb, le-ltb}
@@ -18,7 +18,9 @@ returns-then-drawer-gt65536 c = simp (lt-ltb _ _ c.if-drawer-gt65536.true)
 
 pub returns-then-r-ge64 : goal.returns-then-r-ge64
 unfolding find_says
-returns-then-r-ge64 c = simp (le-ltb _ _ c.if-drawer-gt65536.false, le-ltb _ _ c.if-r-ge64.true)
+returns-then-r-ge64 c =
+    let many : 64 ≤ c.args.r = omega arith in
+    simp (le-ltb _ _ c.if-drawer-gt65536.false, le-ltb _ _ many)
 
 pub loop-init : goal.loop-init
 loop-init c = rw sub-zero (sym (find-seek _ _ c.if-drawer-gt65536.false c.if-r-ge64.false))

@@ -13,16 +13,10 @@ returns-then-drawer-at c =
 pub returns-then-k-ge64 : goal.returns-then-k-ge64
 returns-then-k-ge64 c =
     rw c.from-number.ensures
-    (writes (left-full _ _ _ c.if-drawer-at.false c.if-k-ge64.true) (behind-full _ _ _ c.if-drawer-at.false c.if-k-ge64.true) (rw c.from-number.ensures at c.refused.ensures))
+    (writes (left-full _ _ _ c.if-drawer-at.false (omega arith)) (behind-full _ _ _ c.if-drawer-at.false (omega arith)) (rw c.from-number.ensures at c.refused.ensures))
 
 pub overflow_add-end : goal.overflow_add-end
 overflow_add-end c = omega (arith, ends-within _ _ _ _ (sym c.in-Ok.ensures))
-
-pub slice_bounds-judged-count : goal.slice_bounds-judged-count
-slice_bounds-judged-count c = omega (arith, ends-within _ _ _ _ (sym c.in-Ok.ensures))
-
-pub slice_bounds-judged-start : goal.slice_bounds-judged-start
-slice_bounds-judged-start c = omega (arith, ends-within _ _ _ _ (sym c.in-Ok.ensures))
 
 pub slice_bounds-judged-end : goal.slice_bounds-judged-end
 slice_bounds-judged-end c = omega (arith, ends-within _ _ _ _ (sym c.in-Ok.ensures))

@@ -38,8 +38,3 @@ returns-in_err-passed c =
 
 pub overflow_add-at : goal.overflow_add-at
 overflow_add-at c = omega (arith, ends-within _ _ _ _ (sym c.in_ok-passed.ensures))
-
-pub returns : goal.returns
-returns c =
-    let none : c.args.r - c.loop.counter ≡ 0 = omega arith in
-    c.record_at-2.ensures ∙ rw none at c.loop.invariant

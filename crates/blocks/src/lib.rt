@@ -123,10 +123,14 @@ pub fn block(t: Summary<'_>, blocks: usize, i: usize) -> Option<usize>
     Some(search(t, i, first, last(t, blocks, first, q)))
 }
 
-// The excess before block k.
-pub fn before(t: Summary<'_>, k: usize) -> usize
-    requires { k < length t.numbers.now }
-    ensures { Before t.entry.numbers.now k result }
+// The excess before block k, from the numbers that say where each ends.
+pub fn before(ends: &[u16], k: usize) -> usize
+    requires { k < length ends.now }
+    ensures { Before ends.now k result }
 {
-    if k == 0 { 0 } else { t.end(k - 1) }
+    if k == 0 {
+        return 0;
+    }
+    let last = k - 1;
+    usize::from(ends[last])
 }

@@ -48,7 +48,7 @@ impl<'a> Lent<'a> {
         requires { Block self.now.body.bytes.now k × (i < 32768) }
         ensures { Stands self.now k i result }
     {
-        let e = blocks::before(self.summary, k);
+        let e = blocks::before(self.summary.numbers, k);
         let twice = (2 * i + e).checked_sub(256 * k).ok_or(Refusal::Foreign)?;
         let from = 32 * k;
         let end = self.body.end_of(k);
@@ -135,7 +135,7 @@ impl<'a> Stretch<'a> {
             return best;
         }
         let start = Scan {
-            excess: GROUND + blocks::before(self.lent.summary, self.b),
+            excess: GROUND + blocks::before(self.lent.summary.numbers, self.b),
             smallest: best.smallest,
             place: best.place,
         };
@@ -162,7 +162,7 @@ impl<'a> Stretch<'a> {
             return self.entry(end);
         }
         let k = tree::descend(self.lent.summary, best.node, best.level);
-        let before = GROUND + blocks::before(self.lent.summary, k);
+        let before = GROUND + blocks::before(self.lent.summary.numbers, k);
         self.entry(self.lent.body.whole(k, before, mid))
     }
 

@@ -10,13 +10,13 @@ use borrow.Author.Tests.{ltb-true, ltb-false, le-ltb}
 use lib.Dec.{ltb}
 use native.Mathlib.Numerals.{add-one}
 use lib.ListN.{length, take, drop, get_or, replicate, length-take, length-drop}
-use lib.Seq.{take_all, take-suc, take-add, length-take-le}
+use lib.Seq.{take_all, take-suc, take-add, drop-drop, length-take-le}
 use Rattle.rules.specs.Bytes.{low_bits, all_bits}
 use Rattle.rules.proofs.Bytes.{all_bits-length, all_bits-append}
 use Rattle.rules.specs.Shape.{Paren, opening, closing}
 use Rattle.rules.specs.Excess.{openings, closings, excesses, list_of}
 use Rattle.rules.specs.Summary.{none, smallest_of}
-use Rattle.rules.proofs.Excess.{counts-length, excesses-opening, excesses-closing}
+use Rattle.rules.proofs.Excess.{closings-append, counts-length, excesses-opening, excesses-closing}
 use Rattle.scan.specs.declared.Scan.{Scan}
 use Rattle.scan.specs.Scan.{seen, step_of, scan_of, Ready}
 
@@ -213,23 +213,27 @@ scanned-more st at k bs h =
     one : (b : ℕ) → all_bits (b ∷ []) ≡ low_bits 8 b
     one b = append-nil (low_bits 8 b)
 
--- ---- eight bytes
+-- ---- bytes that are counted
 
-module _ (k : ℕ) (bs : List ℕ) (h : k + 8 ≤ length bs) where
-  eight-length : length (all_bits (take 8 (drop k bs))) ≡ 64
-  eight-length =
-      let l : length (take 8 (drop k bs)) ≡ 8 = simp (length-take, length-drop) (omega arith) in
-      rw (all_bits-length (take 8 (drop k bs)), l)
+-- j of them from number k on
+module _ (k j : ℕ) (bs : List ℕ) (h : k + j ≤ length bs) where
+  part-length : length (all_bits (take j (drop k bs))) ≡ 8 * j
+  part-length =
+      let l : length (take j (drop k bs)) ≡ j = simp (length-take, length-drop) (omega arith) in
+      rw (all_bits-length (take j (drop k bs)), l)
 
-  pub eight_few : closings (all_bits (take 8 (drop k bs))) ≤ 64
-  eight_few = omega (arith, counts-length (all_bits (take 8 (drop k bs))), eight-length)
+  pub few_close : closings (all_bits (take j (drop k bs))) ≤ 8 * j
+  few_close = omega (arith, counts-length (all_bits (take j (drop k bs))), part-length)
 
-  -- counted
-  pub scan-counted : (st : Scan) (p c : ℕ) → c ≡ closings (all_bits (take 8 (drop k bs))) → st.smallest + 64 ≤ st.excess
-      → record { excess = st.excess + 64 - 2 * c; smallest = st.smallest; place = st.place } ≡ scan_of st p (all_bits (take 8 (drop k bs)))
+  pub scan-counted : (st : Scan) (p c : ℕ) → c ≡ closings (all_bits (take j (drop k bs))) → st.smallest + 8 * j ≤ st.excess
+      → record { excess = st.excess + 8 * j - 2 * c; smallest = st.smallest; place = st.place } ≡ scan_of st p (all_bits (take j (drop k bs)))
   scan-counted st p c e far =
-      let l = eight-length in
-      rw (e, ← l) (sym (scan_far st.excess st.smallest st.place p (all_bits (take 8 (drop k bs))) (omega arith)))
+      let l = part-length in
+      rw (e, ← l) (sym (scan_far st.excess st.smallest st.place p (all_bits (take j (drop k bs))) (omega (arith, l))))
+
+-- the closings of two parts, one behind the other
+pub both_close : (k i j : ℕ) (bs : List ℕ) → closings (all_bits (take (i + j) (drop k bs))) ≡ closings (all_bits (take i (drop k bs))) + closings (all_bits (take j (drop (k + i) bs)))
+both_close k i j bs = rw (take-add i j (drop k bs), drop-drop, all_bits-append, closings-append)
 
 -- bytes, and one more byte whose bits are those of l and then openings
 pub scan-opened : (st x y : Scan) (p : ℕ) (bs : List ℕ) (b u : ℕ) (l : List Paren) → x ≡ scan_of st p (all_bits bs)

@@ -6,10 +6,20 @@
 pub mod mask;
 mod rows;
 
-ghost use Rattle.std.specs.Prelude.{◌≡◌, ◌+◌, ◌*◌, ◌≤◌, ◌<◌, length, take, drop};
+ghost use Rattle.std.specs.Prelude.{◌≡◌, ℕ, ◌+◌, ◌*◌, ◌≤◌, ◌<◌, length, take, drop};
 ghost use Rattle.rules.specs.Bytes.{low_bits, all_bits};
-ghost use Rattle.scan.specs.Rows.{cell};
+ghost use Rattle.scan.specs.Rows.{rows, cell};
 ghost use Rattle.scan.specs.Scan.{Ready, scan_of};
+
+// The table, row after row.
+pub type RowTable = [i8; 768];
+
+// The table as a value, for whoever wants its rows. A scan reads it where it lies.
+pub fn table() -> RowTable
+    ensures { result ≡ rows }
+{
+    rows::ROWS
+}
 
 // The number at place k of the table, counted from -8.
 fn shifted(k: usize) -> usize
@@ -66,36 +76,57 @@ impl Scan {
         st
     }
 
-    // The state after the eight bytes from number k on. From an excess of 64 or more above the smallest
-    // none of their parentheses goes below it: then only the closings count, and no row is looked up.
-    fn eight(self, part: &[u8], k: usize, at: usize) -> Scan
-        requires { Ready self 64 × (k + 8 ≤ length part.now) × (at + 64 ≤ 1048576) }
-        ensures { result ≡ scan_of self at (all_bits (take 8 (drop k part.now))) }
+    // The state after the eight bytes from number k on, where none of their parentheses goes below the smallest: then
+    // only the closings count, and no row is looked up.
+    fn eight(self, part: &[u8], k: usize) -> Scan
+        requires { (self.smallest + 64 ≤ self.excess) × Ready self 64 × (k + 8 ≤ length part.now) }
+        ensures { (p : ℕ) → result ≡ scan_of self p (all_bits (take 8 (drop k part.now))) }
     {
-        if self.smallest + 64 <= self.excess {
-            let closings = words::closings(part, k);
-            return Scan {
-                excess: self.excess + 64 - 2 * closings,
-                smallest: self.smallest,
-                place: self.place,
-            };
+        let closings = words::closings(part, k);
+        Scan {
+            excess: self.excess + 64 - 2 * closings,
+            smallest: self.smallest,
+            place: self.place,
         }
-        let to = k + 8;
-        self.each(&part[k..to], at)
     }
 
-    // The state after all parentheses of these bytes, the first of which stands at place at: eight bytes
-    // at a time, then those that are left.
+    // The same of 32 bytes.
+    fn thirty_two(self, part: &[u8], k: usize) -> Scan
+        requires { (self.smallest + 256 ≤ self.excess) × Ready self 256 × (k + 32 ≤ length part.now) }
+        ensures { (p : ℕ) → result ≡ scan_of self p (all_bits (take 32 (drop k part.now))) }
+    {
+        let front = words::closings(part, k) + words::closings(part, k + 8);
+        let rest = words::closings(part, k + 16) + words::closings(part, k + 24);
+        Scan {
+            excess: self.excess + 256 - 2 * (front + rest),
+            smallest: self.smallest,
+            place: self.place,
+        }
+    }
+
+    // The state after all parentheses of these bytes, the first of which stands at place at. From an excess of 64 or
+    // more above the smallest eight bytes are counted, from 256 or more 32 at a time; others are read one by one.
     pub fn bytes(self, part: &[u8], at: usize) -> Scan
         requires { Ready self (8 * length part.now) × (at + 8 * length part.now ≤ 1048576) }
         ensures { result ≡ scan_of self at (all_bits part.now) }
     {
         let mut st = self;
-        for m in 0..part.len() / 8 {
-            let k = 8 * m;
-            st = st.eight(part, k, at + 8 * k);
+        let mut k = 0;
+        while k + 8 <= part.len() {
+            if st.smallest + 64 <= st.excess {
+                if st.smallest + 256 <= st.excess && k + 32 <= part.len() {
+                    st = st.thirty_two(part, k);
+                    k += 32;
+                } else {
+                    st = st.eight(part, k);
+                    k += 8;
+                }
+            } else {
+                let to = k + 8;
+                st = st.each(&part[k..to], at + 8 * k);
+                k = to;
+            }
         }
-        let rest = part.len() - part.len() % 8;
-        st.each(&part[rest..], at + 8 * rest)
+        st.each(&part[k..], at + 8 * k)
     }
 }

@@ -3,6 +3,7 @@
 use mathlib.Core.Path.{◌≡◌, refl, sym, ap, ◌∙◌}
 use Prim.Native.Nat.{ℕ}
 use mathlib.Core.List.{List, [], ◌∷◌, ◌++◌, append_assoc, append-nil, flatten}
+use lib.ListN.{take}
 use Rattle.std.specs.Prelude.{true, false, Option, None, Some}
 use Rattle.std.specs.Option.{is_some}
 use Rattle.std.specs.Io.KnownBytes.{Appends}
@@ -30,10 +31,10 @@ unfolding flatten
 first_and_others [] = refl
 first_and_others (l ∷ ls) = refl
 
-pub one_more : (a b c : Option (List ℕ)) {d t whole : List ℕ} {from : Option Rest} {r : Option Rest}
-    → WritesLine d from r t → Gone a b (flatten (lines_left d from)) whole → Appends b c t → Gone a c (flatten (lines_left d r)) whole
-one_more a b c {d} {t} {from = from} {r} w g k =
-    let both : t ++ flatten (lines_left d r) ≡ flatten (lines_left d from) = rw (w.text, w.lines) (sym (first_and_others (lines_left d from))) in
+pub one_more : (a b c : Option (List ℕ)) {d o o' t whole : List ℕ} {from r : Option Rest} {used : ℕ}
+    → WritesLine d from o r used o' → t ≡ take used o' → Gone a b (flatten (lines_left d from)) whole → Appends b c t → Gone a c (flatten (lines_left d r)) whole
+one_more a b c {d} {t = t} {from = from} {r} w e g k =
+    let both : t ++ flatten (lines_left d r) ≡ flatten (lines_left d from) = rw (e, w.text, w.lines) (sym (first_and_others (lines_left d from))) in
     (g.0 ++ t, appends_more a b c g.0 t g.1 k, append_assoc g.0 t (flatten (lines_left d r)) ∙ ap (λ x. g.0 ++ x) both ∙ g.2)
 
 -- where no line is left the writer has all

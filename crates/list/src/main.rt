@@ -5,18 +5,19 @@ ghost use Rattle.std.specs.Prelude.{OnOk};
 ghost use Rattle.std.specs.Io.KnownBytes.{Appends};
 ghost use Rattle.rules.specs.Listing.{listing};
 
-use listing::Line;
+use listing::Text;
 use std::io::{self, Write};
 
 // Line by line, until nothing is left or the output takes no more. Where all is written, it is the listing.
 fn write_lines<W: Write>(drawer: &[u8], out: &mut W) -> io::Result<()>
     ensures { OnOk result (Appends (W.contents out.old) (W.contents out.new) (listing drawer.now)) }
 {
-    let mut line = Line::new();
+    let mut line = listing::buffer();
+    let mut text = Text::over(&mut line);
     let mut rest = Some(listing::start(drawer));
     while rest.is_some() {
-        rest = listing::next(drawer, rest, &mut line);
-        out.write_all(line.text())?;
+        rest = listing::next(drawer, rest, &mut text);
+        out.write_all(text.bytes())?;
     }
     Ok(())
 }

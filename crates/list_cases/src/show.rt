@@ -1,5 +1,5 @@
 // A listing as it is; of a line of more than 100 characters its length and a digest.
-use listing::Line;
+use listing::Text;
 use std::io;
 
 const MODULUS: u64 = 1_000_000_007;
@@ -19,11 +19,12 @@ fn show(rt: &impl Print, text: &[u8]) -> io::Result<()> {
 }
 
 pub fn listing(rt: &impl Print, drawer: &[u8]) -> io::Result<()> {
-    let mut line = Line::new();
+    let mut line = listing::buffer();
+    let mut text = Text::over(&mut line);
     let mut rest = Some(listing::start(drawer));
     while rest.is_some() {
-        rest = listing::next(drawer, rest, &mut line);
-        show(rt, line.text())?;
+        rest = listing::next(drawer, rest, &mut text);
+        show(rt, text.bytes())?;
     }
     Ok(())
 }

@@ -2,3 +2,4 @@ pub mod Digits
 pub mod Turned
 pub mod Parens
 pub mod Onward
+pub mod Writing

@@ -15,9 +15,13 @@ use Rattle.rules.specs.Order.{frame_says}
 use Rattle.rules.specs.Drawer.{most_records, found, seek}
 use Rattle.drawer.proofs.Walk.{stands}
 use Rattle.rules.specs.Listing.{refused_line, end_line, record_line, lines_from, ended_lines}
+use Rattle.listing.specs.Room.{line_room}
+use Rattle.listing.specs.Text.{Anew}
+use Rattle.listing.specs.declared.line.Text.{Text}
 use Rattle.listing.specs.declared.Rest.{Rest}
 use Rattle.listing.specs.declared.Rest.TheVariants.{Lines, End, Long}
 use Rattle.listing.specs.Left.{lines_of, lines_left, other_lines, behind_frame, behind_line, rest_of, WritesLine}
+use Rattle.listing.proofs.Writing.{anew_out}
 
 lines_none : (m k : ℕ) → lines_from m k [] ≡ []
 unfolding lines_from
@@ -71,19 +75,29 @@ module _ (d : List ℕ) (k at : ℕ) where
         rw (more, lt-ltb 0 (length (drop at d)) some, e, drop-drop, ended_more)
 
 -- a line that is the first of those left
-pub writes : {d t : List ℕ} {from : Rest} {r : Option Rest} {l : List ℕ} → lines_of d from ≡ l ∷ lines_left d r → rest_of d from ≡ r → t ≡ l
-    → WritesLine d (Some from) r t
-writes e f g = record { text = rw e g; lines = rw e; value = sym f }
+pub writes : {d t : List ℕ} {from : Rest} {x y : Text} {r : Option Rest} {l : List ℕ} → lines_of d from ≡ l ∷ lines_left d r → rest_of d from ≡ r → Anew t x y
+    → t ≡ l → y.used ≤ line_room → WritesLine d (Some from) x.line.now r y.used y.line.now
+writes e f a g h =
+    record {
+      size = rw (e, ← g) a.size;
+      room = h;
+      text = rw (e, ← g) a.text;
+      out = rw (e, ← g) (anew_out a);
+      lines = rw e;
+      value = sym f;
+    }
 
 -- the line of a record that stands there
-pub passes : {d t : List ℕ} {k : ℕ} (at : ℕ) → at < length d → k < most_records → (p l : ℕ) → seek d 0 at ≡ found p l
-    → t ≡ record_line k (take (p + l - p) (drop p d)) → WritesLine d (Some (Lines k at)) (Some (Lines (k + 1) (p + l))) t
-passes {d} {t} {k} at h few p l e f = let s = stands d at p l e in by s.n s.framed s.here s.size
+pub passes : {d t : List ℕ} {x y : Text} {k : ℕ} (at : ℕ) → at < length d → k < most_records → (p m : ℕ) → seek d 0 at ≡ found p m → Anew t x y
+    → t ≡ record_line k (take (p + m - p) (drop p d)) → y.used ≤ line_room
+    → WritesLine d (Some (Lines k at)) x.line.now (Some (Lines (k + 1) (p + m))) y.used y.line.now
+passes {d} {t} {x} {y} {k} at h few p m e a f room = let s = stands d at p m e in by s.n s.framed s.here s.size
   where
-    by : (n : ℕ) → frame_says (drop at d) ≡ answer n → p ≡ at → l ≡ record_length n → WritesLine d (Some (Lines k at)) (Some (Lines (k + 1) (p + l))) t
-    by n framed here size =
-        let cut : p + l - p ≡ record_length n = omega arith in
-        rw (here, size) (writes (left-more d k at h n few framed) (behind-record d k at h few framed) (f ∙ rw (cut, here)))
+    by : (n : ℕ) → frame_says (drop at d) ≡ answer n → p ≡ at → m ≡ record_length n
+        → WritesLine d (Some (Lines k at)) x.line.now (Some (Lines (k + 1) (p + m))) y.used y.line.now
+    by n framed here is =
+        let cut : p + m - p ≡ record_length n = omega arith in
+        rw (here, is) (writes (left-more d k at h n few framed) (behind-record d k at h few framed) a (f ∙ rw (cut, here)) room)
 
 -- at least one is left
 some_left : (d : List ℕ) (from : Rest) → 0 < length (lines_of d from)
@@ -93,7 +107,8 @@ some_left d (End c) = omega arith
 some_left d Long = omega arith
 
 -- what a caller in a loop goes by: each line that is written is one fewer
-pub one_fewer : {d t : List ℕ} {r : Option Rest} (from : Option Rest) → IsSome from → WritesLine d from r t → length (lines_left d r) < length (lines_left d from)
+pub one_fewer : {d o o' : List ℕ} {r : Option Rest} {used : ℕ} (from : Option Rest) → IsSome from → WritesLine d from o r used o'
+    → length (lines_left d r) < length (lines_left d from)
 one_fewer None h w = let x : false ≡ true = h in cc
 one_fewer {d} (Some from) h w = rw w.lines (by (lines_of d from) (some_left d from))
   where

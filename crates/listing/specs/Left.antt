@@ -1,10 +1,11 @@
 -- What of a listing is still to be written, and one line of it.
-use Rattle.std.specs.Prelude.{◌≡◌, ℕ, ◌+◌, ◌-◌, cond, List, [], ◌∷◌, ltb, length, drop, Option, Some, None}
+use Rattle.std.specs.Prelude.{◌≡◌, ℕ, ◌+◌, ◌-◌, ◌≤◌, cond, List, [], ◌∷◌, ◌++◌, ltb, length, take, drop, Option, Some, None}
 use Rattle.rules.specs.Bytes.{record_length}
 use Rattle.rules.specs.Refusal.{Outcome, answer, refusal}
 use Rattle.rules.specs.Order.{frame_says}
 use Rattle.rules.specs.Drawer.{most_bytes, most_records}
 use Rattle.rules.specs.Listing.{end_line, long_line, lines_from, ended_lines, listing_lines}
+use Rattle.listing.specs.Room.{line_room}
 use Rattle.listing.specs.declared.Rest.{Rest}
 use Rattle.listing.specs.declared.Rest.TheVariants.{Lines, End, Long}
 
@@ -56,8 +57,12 @@ pub record Starts (d : List ℕ) (r : Rest) : Type 0 where
   pub lines : lines_of d r ≡ listing_lines d
   pub value : r ≡ all_of d
 
--- the text is the first line that is left, nothing where none was left; the others are left then
-pub record WritesLine (d : List ℕ) (from : Option Rest) (r : Option Rest) (t : List ℕ) : Type 0 where
-  pub text : t ≡ first_line (lines_left d from)
+-- the first line that is left stands at the start of the lent line, nothing where none was left, and no byte behind it has changed; the
+-- others are left then
+pub record WritesLine (d : List ℕ) (from : Option Rest) (o : List ℕ) (r : Option Rest) (used : ℕ) (o' : List ℕ) : Type 0 where
+  pub size : used ≡ length (first_line (lines_left d from))
+  pub room : used ≤ line_room
+  pub text : take used o' ≡ first_line (lines_left d from)
+  pub out : o' ≡ first_line (lines_left d from) ++ drop (length (first_line (lines_left d from))) o
   pub lines : lines_left d r ≡ other_lines (lines_left d from)
   pub value : r ≡ rest_after d from

@@ -1,3 +1,4 @@
 pub mod Room
 pub mod Bit
+pub mod Text
 pub mod Left

@@ -1,16 +1,18 @@
-// Document 01, "The listing": the text of a drawer, one line at a time. A line has room for the longest of them; the
-// caller passes it on and comes back for the next. All lines together take a number of steps in proportion to the
-// drawer's length.
+// Document 01, "The listing": the text of a drawer, one line at a time. Each is written at the start of a lent line that
+// holds the longest of them; the caller passes it on and comes back for the next. All lines together take a number of
+// steps in proportion to the drawer's length.
 #![tactic(auto)]
 
 mod line;
 mod lines;
 mod shape;
+mod text;
 
+ghost use Rattle.std.specs.Prelude.{◌≡◌};
 ghost use Rattle.listing.specs.Left.{Starts, WritesLine};
 
 use answers::Refusal;
-pub use line::Line;
+pub use line::{Line, Text, buffer};
 
 // What of a listing is still to be written: one line at least.
 #[derive(Clone, Copy, Debug, PartialEq, Eq)]
@@ -34,50 +36,52 @@ pub fn start(drawer: &[u8]) -> Rest
 }
 
 // The line of the record at a place, or the one that stops the listing, or the last line where the drawer ends.
-fn line_at(drawer: &[u8], k: u8, at: usize, line: &mut Line) -> Option<Rest>
-    ensures { WritesLine drawer.now (Some (Rest.Lines k at)) result line.new }
+fn line_at(drawer: &[u8], k: u8, at: usize, text: &mut Text) -> Option<Rest>
+    ensures lent { text.new.line.ghost_name ≡ text.old.line.ghost_name }
+    ensures writes { WritesLine drawer.now (Some (Rest.Lines k at)) text.old.line.now result text.new.used text.new.line.now }
 {
     let number = usize::from(k);
     if drawer.len() <= at {
-        lines::end(number, line);
+        lines::end(number, text);
         return None;
     }
     // behind a refusal that stops the listing comes the last line
     let stopped = Some(Rest::End(number + 1));
     if 64 <= k {
-        lines::refused(number, Refusal::DrawerFull, line);
+        lines::refused(number, Refusal::DrawerFull, text);
         return stopped;
     }
     match drawer::record_at(drawer, at) {
         Ok(place) => {
             let end = place.at + place.size;
-            lines::judged(number, &drawer[place.at..end], line);
+            lines::judged(number, &drawer[place.at..end], text);
             Some(Rest::Lines(k + 1, end))
         }
         Err(x) => {
-            lines::refused(number, x, line);
+            lines::refused(number, x, text);
             stopped
         }
     }
 }
 
-// Writes the first of the lines that are left, over what the line had, and answers what is left behind it. Where
-// nothing was left the line is empty.
-pub fn next(drawer: &[u8], rest: Option<Rest>, line: &mut Line) -> Option<Rest>
-    ensures { WritesLine drawer.now rest result line.new }
+// Writes the first of the lines that are left, over the text that there was, and answers what is left behind it. Where
+// nothing was left there is no text. No byte of the line behind its text changes.
+pub fn next(drawer: &[u8], rest: Option<Rest>, text: &mut Text) -> Option<Rest>
+    ensures lent { text.new.line.ghost_name ≡ text.old.line.ghost_name }
+    ensures writes { WritesLine drawer.now rest text.old.line.now result text.new.used text.new.line.now }
 {
     let Some(from) = rest else {
-        line.clear();
+        text.clear();
         return None;
     };
     match from {
-        Rest::Lines(k, at) => line_at(drawer, k, at, line),
+        Rest::Lines(k, at) => line_at(drawer, k, at, text),
         Rest::End(count) => {
-            lines::end(count, line);
+            lines::end(count, text);
             None
         }
         Rest::Long => {
-            lines::long(line);
+            lines::long(text);
             None
         }
     }

@@ -33,4 +33,5 @@ pub record Listed : Type 0 where
   pub whole : (d : List ℕ) (m : ℕ) → length (listing_lines d) ≤ m → flatten (calls m d (Some (all_of d))) ≡ listing d
   -- two results allowed for one input are equal
   pub start_once : (d : List ℕ) (x y : Rest) → Starts d x → Starts d y → x ≡ y
-  pub next_once : (d : List ℕ) (from s t : Option Rest) (x y : List ℕ) → WritesLine d from s x → WritesLine d from t y → (s ≡ t) × (x ≡ y)
+  pub next_once : (d : List ℕ) (from : Option Rest) (o : List ℕ) (s t : Option Rest) (u v : ℕ) (x y : List ℕ) → WritesLine d from o s u x → WritesLine d from o t v y
+      → (s ≡ t) × (u ≡ v) × (x ≡ y)

@@ -6,8 +6,8 @@ use Rattle.listing.specs.Left.{lines_left}
 use Rattle.list.proofs.Written.{Gone}
 use Rattle.list.proofs.write_lines.Given as goal
 
-abbrev pub invariant-loop-line : goal.invariant-loop-line
-invariant-loop-line g l = Gone (g.W.Write.contents l.fn.out) (g.W.Write.contents l.out) (flatten (lines_left l.drawer l.rest)) (listing l.drawer)
+abbrev pub invariant-loop-text : goal.invariant-loop-text
+invariant-loop-text g l = Gone (g.W.Write.contents l.fn.out) (g.W.Write.contents l.out) (flatten (lines_left l.drawer l.rest)) (listing l.drawer)
 
-abbrev pub decreases-loop-line : goal.decreases-loop-line
-decreases-loop-line g l = length (lines_left l.drawer l.rest)
+abbrev pub decreases-loop-text : goal.decreases-loop-text
+decreases-loop-text g l = length (lines_left l.drawer l.rest)

@@ -3,5 +3,5 @@ use mathlib.Core.Path.{sym}
 use Rattle.listing.proofs.Onward.{one_fewer}
 use Rattle.list_cases.proofs.show.listing.Goals as goal
 
-pub loop-line-smaller : goal.loop-line-smaller
-loop-line-smaller g c = one_fewer c.loop-line.rest (sym c.loop-line-test.ensures) c.next-rest.ensures
+pub loop-text-smaller : goal.loop-text-smaller
+loop-text-smaller g c = one_fewer c.loop-text.rest (sym c.loop-text-test.ensures) c.next-rest.ensures.writes

@@ -3,5 +3,5 @@ use Rattle.std.proofs.Common.{length}
 use Rattle.listing.specs.Left.{lines_left}
 use Rattle.list_cases.proofs.show.listing.Given as goal
 
-abbrev pub decreases-loop-line : goal.decreases-loop-line
-decreases-loop-line g l = length (lines_left l.drawer l.rest)
+abbrev pub decreases-loop-text : goal.decreases-loop-text
+decreases-loop-text g l = length (lines_left l.drawer l.rest)

@@ -1,5 +1,0 @@
--- `Line::number` ends: the measure is the number. Assumes nothing.
-use Rattle.listing.proofs.line.Line.+number.Given as goal
-
-abbrev pub decreases-number : goal.decreases-number
-decreases-number l = l.x

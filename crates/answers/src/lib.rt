@@ -54,6 +54,12 @@ impl From<Refusal> for usize {
 
 // It is shown as that number.
 impl fmt::Display for Refusal {
+    ghost use Rattle.std.specs.Prelude.{Some};
+    ghost use Rattle.std.specs.Fmt.{decimal};
+    ghost use Rattle.answers.specs.Said.{number};
+
+    ghost output = { λ r. Some (decimal (number r)) };
+
     fn fmt<W: fmt::Write>(&self, f: &mut fmt::Formatter<W>) -> fmt::Result {
         write!(f, "{}", usize::from(*self))
     }

@@ -23,9 +23,9 @@ fn again(buffer: &mut [u8], bytes: &[u8]) {
 fn of_most(buffer: &mut [u8]) {
     buffer.fill(0xA5);
     for (r, record) in buffer.chunks_mut(8196).enumerate() {
-        let n = if r < 7 { 32768 } else { 32640 };
-        if let Some(head) = record.first_chunk_mut() {
-            *head = plain::head(n);
+        let n: u16 = if r < 7 { 32768 } else { 32640 };
+        for (byte, &value) in record.iter_mut().zip(&plain::head(n)) {
+            *byte = value;
         }
     }
 }

@@ -28,7 +28,7 @@ impl Pair {
     pub fn of(kind: Kind, n: usize, seed: u32) -> Pair {
         let mut entries = [0u32; 2048];
         let column = part::first_mut(&mut entries, n);
-        kind.fill(column, seed);
+        kind.fill(column, seed.into());
         let mut pair = Pair {
             record: [0; 516],
             summary: [7; 896],

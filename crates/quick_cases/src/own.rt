@@ -49,7 +49,7 @@ fn many(rt: &impl Print, name: &str, kind: Kind, count: u32) -> io::Result<()> {
         let mut entries = [0u32; 2048];
         let mut out = [0xEEu8; 520];
         let column = part::first_mut(&mut entries, made::length(k, 2048));
-        kind.fill(column, k);
+        kind.fill(column, k.into());
         run.column(column, made::record(column, &mut out), k, 40);
     }
     println!(rt; "{name}, {count} columns; {run}")

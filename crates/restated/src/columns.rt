@@ -29,9 +29,9 @@ impl Kind {
         }
     }
 
-    pub fn fill(self, column: &mut [u32], seed: u32) {
+    pub fn fill(self, column: &mut [u32], seed: u64) {
         let n = column.len();
-        let mut x = seed;
+        let mut x = random::low(seed);
         for (k, entry) in column.iter_mut().enumerate() {
             x = random::next(x);
             *entry = (self.entry(n, k, x) % 4294967296) as u32;

@@ -52,9 +52,9 @@ pub fn size(n: usize) -> usize {
     4 + n.div_ceil(4)
 }
 
-// The head of a record of n entries.
-pub fn head(n: u16) -> [u8; 4] {
-    let [low, high] = n.to_le_bytes();
+// The head of a record of n entries, of whose number it has two bytes.
+pub fn head(n: impl Into<usize>) -> [u8; 4] {
+    let [low, high, ..] = n.into().to_le_bytes();
     [0x52, 0x4D, low, high]
 }
 
@@ -64,7 +64,7 @@ pub fn record(column: &[u32], out: &mut [u8]) -> usize {
     let Some((first, bytes)) = out.split_first_chunk_mut::<4>() else {
         return 0;
     };
-    *first = head((n % 65536) as u16);
+    *first = head(n);
     let mut parens = Parens { bytes, count: 0 };
     parens.shape(column);
     size(n)

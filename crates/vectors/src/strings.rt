@@ -5,7 +5,7 @@ use std::io;
 
 pub fn all(rt: &impl Print) -> io::Result<()> {
     let mut judge = Judge::default();
-    for k in 0..50000 {
+    for k in 0..50000u32 {
         let n = k % 33;
         let mut bytes = [0u8; 14];
         random::fill(&mut bytes, k, 256);

@@ -35,3 +35,6 @@ pub record Listed : Type 0 where
   pub start_once : (d : List ℕ) (x y : Rest) → Starts d x → Starts d y → x ≡ y
   pub next_once : (d : List ℕ) (from : Option Rest) (o : List ℕ) (s t : Option Rest) (u v : ℕ) (x y : List ℕ) → WritesLine d from o s u x → WritesLine d from o t v y
       → (s ≡ t) × (u ≡ v) × (x ≡ y)
+  -- and two texts, whatever lines were lent
+  pub text_once : (d : List ℕ) (from : Option Rest) (o p : List ℕ) (s t : Option Rest) (u v : ℕ) (x y : List ℕ) → WritesLine d from o s u x → WritesLine d from p t v y
+      → (s ≡ t) × (take u x ≡ take v y)

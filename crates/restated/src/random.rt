@@ -2,7 +2,7 @@
 ghost use Rattle.std.specs.Prelude.{◌<◌};
 
 // The lowest 32 bits.
-pub fn low(x: impl Into<u64>) -> u32 {
+pub(crate) fn low(x: impl Into<u64>) -> u32 {
     (x.into() % (1 << 32)) as u32
 }
 

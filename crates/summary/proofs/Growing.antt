@@ -50,7 +50,7 @@ grown-node s {t} v some small h =
         ∙ slot-halves s v some small
         ∙ rw (h.first (256 + 2 * v) (omega arith), h.first (257 + 2 * v) (omega arith), grown_past s v (256 + 2 * v) (omega arith), grown_past s v (257 + 2 * v) (omega arith))
 
-pub grows_on : {t t' : List ℕ} (v x : ℕ) → 0 < v → v < 256 → Grows v t t' → x ≡ min (get_or t' (256 + 2 * v) 0) (get_or t' (257 + 2 * v) 0)
+pub grows_on : {t t' : List ℕ} {x : ℕ} (v : ℕ) → 0 < v → v < 256 → Grows v t t' → x ≡ min (get_or t' (256 + 2 * v) 0) (get_or t' (257 + 2 * v) 0)
     → Grows (v - 1) t (set t' (256 + v) x)
-grows_on v x some small grows e =
+grows_on v some small grows e =
     record { holds = λ s h. rw e (grown-node s v some small (grows.holds s h)) }

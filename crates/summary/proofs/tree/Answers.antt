@@ -7,4 +7,4 @@ use Rattle.summary.proofs.tree.Goals as goal
 
 pub loop-v-preserved : goal.loop-v-preserved
 loop-v-preserved c =
-    grows_on (c.loop-v.v - 1) c.min.result (omega arith) (omega arith) c.loop-v.invariant c.min.ensures
+    grows_on (c.loop-v.v - 1) (omega arith) (omega arith) c.loop-v.invariant (omega (arith, c.min.ensures))

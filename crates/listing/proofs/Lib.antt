@@ -1,4 +1,5 @@
 pub mod Digits
+pub mod Eight
 pub mod Turned
 pub mod Parens
 pub mod Onward

@@ -8,7 +8,7 @@ use native.Mathlib.Omega.{arith}
 use mathlib.Core.List.{List, [], ◌∷◌, ◌++◌, map}
 use borrow.Author.Tests.{eq-eqb, ne_eqb}
 use lib.ListN.{length, take, drop, get_or, length-take, length-drop, length-map, take-append-drop, get_or-append}
-use lib.Seq.{get_or-append-add, get_or-take, get_or-drop, take_all}
+use lib.Seq.{get_or-append-add, get_or-take, get_or-drop, take_all, length-take-le}
 use Rattle.rules.specs.Shape.{Paren, closing}
 use Rattle.rules.specs.Bytes.{paren, low_bits, all_bits, parens, unused}
 use Rattle.rules.specs.Listing.{dash, sign, greatest_excess, shown_shape}
@@ -99,3 +99,40 @@ module _ {r : List ℕ} {n : ℕ} (c : Checked r n) where
   sign_at b h =
       let l : b < length (parens n r) = omega (arith, parens-length r n c.framed.long) in
       sign_of (bit_at r b) (omega arith) ∙ rw (signs_at (parens n r) b l, paren_at b h)
+
+  -- eight of them stand for a whole byte
+  eight_at : (k i : ℕ) → k < n / 4 → i < 8 → get_or (map sign (low_bits 8 (get_or r (4 + k) 0))) i 0 ≡ get_or (map sign (parens n r)) (8 * k + i) 0
+  eight_at k i h l =
+      let x = get_or r (4 + k) 0 in
+      let q : (8 * k + i) / 8 ≡ k = omega arith in
+      let m : (8 * k + i) % 8 ≡ i = omega arith in
+      signs_at (low_bits 8 x) i (omega (arith, low_bits-length 8 x))
+      ∙ rw (low_at 8 x i l) (sym (sign_of (x / 2 ^ i % 2) (omega arith)) ∙ rw (q, m) at (sign_at (8 * k + i) (omega arith)))
+
+  -- so much stands once these eight are written behind those of the first k bytes
+  pub eight_more : (out : List ℕ) {x : List ℕ} (rest : List ℕ) (k m : ℕ) → k < n / 4 → m ≡ 4 + k → 8 * k + 8 ≤ length out → x ≡ map sign (low_bits 8 (get_or r m 0))
+      → ((j : ℕ) → j < 8 * k → get_or out j 0 ≡ get_or (map sign (parens n r)) j 0)
+      → (j : ℕ) → j < 8 * (k + 1) → get_or (take (8 * k) out ++ (x ++ rest)) j 0 ≡ get_or (map sign (parens n r)) j 0
+  eight_more out {x} rest k m h place room is' stand j below = by (dec_lt j (8 * k))
+    where
+      is : x ≡ map sign (low_bits 8 (get_or r (4 + k) 0))
+      is = is' ∙ rw place
+
+      front : length (take (8 * k) out) ≡ 8 * k
+      front = length-take-le (8 * k) out (omega arith)
+
+      eight : length x ≡ 8
+      eight = ap length is ∙ length-map (low_bits 8 (get_or r (4 + k) 0)) sign ∙ low_bits-length 8 (get_or r (4 + k) 0)
+
+      by : Dec (j < 8 * k) → get_or (take (8 * k) out ++ (x ++ rest)) j 0 ≡ get_or (map sign (parens n r)) j 0
+      by (yes l) = rw (get_or-append (take (8 * k) out) (x ++ rest) 0 j (omega (arith, front)), get_or-take (8 * k) out j 0 l) (stand j l)
+      by (no l) =
+          let i = j - 8 * k in
+          let e : j ≡ length (take (8 * k) out) + i = omega (arith, front) in
+          let f : 8 * k + i ≡ j = omega arith in
+          ap (λ m. get_or (take (8 * k) out ++ (x ++ rest)) m 0) e
+          ∙ get_or-append-add (take (8 * k) out) (x ++ rest) i 0
+          ∙ get_or-append x rest 0 i (omega (arith, eight))
+          ∙ ap (λ y. get_or y i 0) is
+          ∙ eight_at k i h (omega arith)
+          ∙ ap (λ m. get_or (map sign (parens n r)) m 0) f

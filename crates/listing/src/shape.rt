@@ -1,6 +1,6 @@
 // The parentheses of a record that has passed its check.
-ghost use Rattle.std.specs.Prelude.{◌≡◌, ◌+◌, ◌*◌, ◌/◌, ◌≤◌, ◌<◌, length, map};
-ghost use Rattle.rules.specs.Bytes.{all_bits, parens};
+ghost use Rattle.std.specs.Prelude.{◌≡◌, ◌+◌, ◌*◌, ◌/◌, ◌≤◌, ◌<◌, ℕ, length, map, get_or};
+ghost use Rattle.rules.specs.Bytes.{low_bits, all_bits, parens};
 ghost use Rattle.rules.specs.Listing.{sign, greatest_excess};
 ghost use Rattle.listing.specs.Bit.{bit_at};
 
@@ -32,12 +32,36 @@ pub fn greatest(body: &[u8]) -> usize
     GROUND - st.smallest
 }
 
-// Its parentheses, "(" for an opening and ")" for a closing.
+// The signs of eight parentheses, worked out at once: of eight copies of the byte each keeps its own bit, and 127 more
+// carries that bit, whichever it is, to the copy's highest place.
+fn eight(byte: u8) -> [u8; 8]
+    ensures { result ≡ map sign (low_bits 8 byte) }
+{
+    let spread = (u64::from(byte) * 0x0101_0101_0101_0101) & 0x8040_2010_0804_0201;
+    let opened = ((spread + 0x7F7F_7F7F_7F7F_7F7F) >> 7) & 0x0101_0101_0101_0101;
+    (0x2929_2929_2929_2929 - opened).to_le_bytes()
+}
+
+// The signs behind the last whole byte, one by one; those before it stand.
+fn others(checked: Record, out: &mut [u8])
+    requires long { length out.old ≡ 2 * checked.entries }
+    requires stand { (j : ℕ) → j < 8 * (checked.entries / 4) → get_or out.old j 0 ≡ get_or (map sign (parens checked.entries checked.bytes.now)) j 0 }
+    ensures { out.new ≡ map sign (parens checked.entry.entries checked.entry.bytes.now) }
+{
+    for b in 8 * (checked.entries / 4)..2 * checked.entries {
+        out[b] = b')' - bit(checked.bytes, b);
+    }
+}
+
+// Its parentheses, "(" for an opening and ")" for a closing: eight for each whole byte, then the others.
 pub fn signs(checked: Record, out: &mut [u8])
     requires { length out.old ≡ 2 * checked.entries }
     ensures { out.new ≡ map sign (parens checked.entry.entries checked.entry.bytes.now) }
 {
-    for (b, sign) in out.iter_mut().enumerate() {
-        *sign = b')' - bit(checked.bytes, b);
+    for k in 0..checked.entries / 4 {
+        let at = 8 * k;
+        let to = at + 8;
+        out[at..to].copy_from_slice(&eight(checked.bytes[4 + k]));
     }
+    others(checked, out);
 }

@@ -1,29 +1,18 @@
--- `listing::shape::signs` meets its contract: the sign of each parenthesis stands in its place.
+-- `listing::shape::signs` meets its contract: eight signs more stand behind those of the bytes before.
 -- Assumes nothing.
-use mathlib.Core.Path.{ap, ◌∙◌}
-use Prim.Native.Nat.{◌-◌, ◌<◌}
+use Prim.Native.Nat.{◌*◌}
 use native.Mathlib.Omega.{arith}
-use borrow.Author.Count.{below_more}
-use lib.ListN.{length}
-use Rattle.std.proofs.Common.{◌≢◌, get_or-set_other, get_or-set_same}
-use Rattle.std.proofs.lemmas.Grind.{same_number_lists}
+use mathlib.Core.Path.{◌∙◌}
 use Rattle.rules.proofs.Checked.{says_checked}
-use Rattle.listing.proofs.Parens.{readable, signs_length, sign_at}
+use Rattle.listing.proofs.Parens.{readable, eight_more}
 use Rattle.listing.proofs.shape.signs.Goals as goal
 
-pub bit-requires : goal.bit-requires
-bit-requires c =
+pub bounds-checked-k : goal.bounds-checked-k
+bounds-checked-k c =
     let r = readable (says_checked _ _ c.args.checked.accepted) in
-    (r.short, r.body _ (omega arith))
+    let b = r.body (8 * c.loop-k.k) (omega arith) in
+    omega arith
 
-pub loop-b-preserved : goal.loop-b-preserved
-loop-b-preserved c =
-    let within : c.loop-b.b < length c.loop-b.out = omega arith in
-    below_more _ _
-    (λ j h. let ne : j ≢ c.loop-b.b = omega arith in rw get_or-set_other (c.loop-b.invariant j h))
-    (rw get_or-set_same (ap (λ m. 41 - m) c.bit.ensures ∙ sign_at (says_checked _ _ c.args.checked.accepted) _ (omega arith)))
-
-pub returns : goal.returns
-returns c =
-    let signs = signs_length (says_checked _ _ c.args.checked.accepted) in
-    same_number_lists _ _ (omega (arith, signs)) (λ j h. c.loop-b.invariant j (omega arith))
+pub loop-k-preserved : goal.loop-k-preserved
+loop-k-preserved c =
+    eight_more (says_checked _ _ c.args.checked.accepted) c.loop-k.out _ c.loop-k.k _ (omega arith) (omega arith) (omega arith) (c.copy_from_slice.ensures.after ∙ c.eight.ensures) c.loop-k.invariant

@@ -100,10 +100,10 @@ held-summary s {t} h =
     at : (x : ℕ) → x < slots → get_or t x 0 ≡ get_or (summary_of s) x 0
     at x l = h.first x l ∙ sym (summary_at s x l)
 
-pub filled : {r t t₁ t₂ t₃ : List ℕ} {n : ℕ} → check_says r ≡ answer n → slots ≤ length t → Holds (λ x. none) t₁
-    → Lays (parens n r) 0 (blocks_for n) t₁ t₂ → Grows 0 t₂ t₃ → Fills r t (Ok n) (t₃ ++ drop slots t)
+pub filled : {r t t₁ t₂ t₃ : List ℕ} {n : ℕ} → check_says r ≡ answer n → slots ≤ length t → Lays (parens n r) 0 (blocks_for n) t₁ t₂ → Grows 0 t₂ t₃
+    → Holds (λ x. none) t₁ → Fills r t (Ok n) (t₃ ++ drop slots t)
 unfolding fill_says summary_after
-filled {r} {t} {t₁} {t₂} {t₃} {n} e room blank lays grows =
+filled {r} {t} {t₁} {t₂} {t₃} {n} e room lays grows blank =
     let s = parens n r in
     let checked = says_checked r n e in
     let long : length s ≡ 2 * n = parens-length r n checked.framed.long in

@@ -53,8 +53,8 @@ pub record Next (bs : List ℕ) (at j : ℕ) (s : List Paren) : Type 0 where
 pub next_byte : (bs : List ℕ) (at b : ℕ) → at < length bs → b ≡ get_or bs at 0 → Next bs at 1 (low_bits 8 b)
 next_byte bs at b h e = record { room = omega arith; bits = rw e (one_byte bs at h) }
 
-pub next_word : (bs : List ℕ) (at r : ℕ) → low_bits 64 r ≡ all_bits (take 8 (drop at bs)) → at + 8 ≤ length bs → Next bs at 8 (low_bits 64 r)
-next_word bs at r e h = record { room = h; bits = sym e }
+pub next_word : (bs : List ℕ) (at r : ℕ) {from : ℕ} → low_bits 64 r ≡ all_bits (take 8 (drop from bs)) → from ≡ at → at + 8 ≤ length bs → Next bs at 8 (low_bits 64 r)
+next_word bs at r {from} e same h = record { room = h; bits = rw (← same) (sym e) }
 
 pub left_all : (bs : List ℕ) (k : ℕ) → Left bs 0 k k
 unfolding closings all_bits

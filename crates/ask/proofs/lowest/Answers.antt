@@ -39,7 +39,7 @@ overflow_add-last c =
 
 pub within-requires : goal.within-requires
 within-requires c = (
-  same-order c.requires c.find-first.ensures c.behind-here.ensures c.closings-passed.ensures c.if-j-passed.true c.closings-before.ensures c.nth-last.ensures,
+  omega (arith, same-order c.requires c.find-first.ensures c.behind-here.ensures c.closings-passed.ensures c.if-j-passed.true c.closings-before.ensures c.nth-last.ensures),
   omega (arith, same_low c.requires c.find-first.ensures c.behind-here.ensures c.closings-passed.ensures c.if-j-passed.true c.closings-before.ensures c.nth-last.ensures),
 )
 

@@ -25,14 +25,16 @@ to_byte-requires c = (c.sums-sums.ensures, omega (arith, sums-total _ _ c.sums-s
 
 pub returns-then-left-c : goal.returns-then-left-c
 returns-then-left-c c =
-    rw (c.nth.ensures, c.to_byte.ensures.there)
-    (left_here c.loop-m.invariant (next_word _ _ _ c.word-bits.ensures (omega arith)) (omega (arith, sums-total _ _ c.sums-sums.ensures)))
+    let word = next_word c.args.part.now (8 * c.loop-m.m) c.word-bits.result c.word-bits.ensures in
+    let found = left_here c.loop-m.invariant (word (omega arith) (omega arith)) (omega (arith, sums-total _ _ c.sums-sums.ensures)) in
+    rw (c.nth.ensures, c.to_byte.ensures.there) (found.0, omega (arith, found.1))
 
 pub loop-m-preserved : goal.loop-m-preserved
 loop-m-preserved c =
     let e : 8 * (c.loop-m.m + 1) ≡ 8 * c.loop-m.m + 8 = omega arith in
     let total = sums-total _ _ c.sums-sums.ensures in
-    rw (e, total) (left_on c.loop-m.invariant (next_word _ _ _ c.word-bits.ensures (omega arith)) (omega arith))
+    let word = next_word c.args.part.now (8 * c.loop-m.m) c.word-bits.result c.word-bits.ensures in
+    rw (e, total) (left_on c.loop-m.invariant (word (omega arith) (omega arith)) (omega arith))
 
 pub returns-in_err-x : goal.returns-in_err-x
 returns-in_err-x c =

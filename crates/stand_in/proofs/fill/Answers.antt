@@ -29,12 +29,12 @@ bounds-checked-last c = omega (arith, is c.args.checked)
 
 pub bits-requires-then-n-gt0 : goal.bits-requires-then-n-gt0
 bits-requires-then-n-gt0 c =
-    last-ready (is c.args.checked) c.loop-b.invariant.1 c.loop-b-test.false c.loop-b.auto.b-index-end c.if-n-gt0.true
+    last-ready (is c.args.checked) c.loop-b.invariant.1 c.loop-b-test.false c.loop-b.auto.b-index-end (omega arith)
 
 pub returns-then-n-gt0 : goal.returns-then-n-gt0
 returns-then-n-gt0 c =
-    last-filled (is c.args.checked) c.loop-b.invariant.1 c.requires c.loop-b-test.false c.loop-b.auto.b-index-end c.if-n-gt0.true c.bits-then-n-gt0.ensures.walks (search rules)
+    last-filled (is c.args.checked) c.loop-b.invariant.1 c.requires c.loop-b-test.false c.loop-b.auto.b-index-end (omega arith) c.bits-then-n-gt0.ensures.walks (search rules)
 
 pub returns-else-n-gt0 : goal.returns-else-n-gt0
 returns-else-n-gt0 c =
-    none_left (is c.args.checked) c.loop-b.invariant.1 c.requires c.loop-b-test.false c.loop-b.auto.b-index-end c.if-n-gt0.false (search rules)
+    none_left (is c.args.checked) c.loop-b.invariant.1 c.requires c.loop-b-test.false c.loop-b.auto.b-index-end (omega arith) (search rules)

@@ -39,11 +39,11 @@ loop-m-preserved c =
 pub returns-in_err-x : goal.returns-in_err-x
 returns-in_err-x c =
     rw c.from_residual.ensures
-    (left_rest (eights c.loop-m.auto.m-end c.loop-m-test.false c.loop-m.invariant) (omega arith) None c.in_err-x.ensures)
+    (left_rest (eights (omega arith) (omega arith) c.loop-m.invariant) (omega arith) None c.in_err-x.ensures)
 
 pub overflow_add-result : goal.overflow_add-result
 overflow_add-result c = omega (arith, select_inside _ _ c.in_ok-x.ensures.0, all_bits-length)
 
 pub returns : goal.returns
 returns c =
-    left_rest (eights c.loop-m.auto.m-end c.loop-m-test.false c.loop-m.invariant) (omega arith) (Some c.in_ok-x.x) c.in_ok-x.ensures
+    left_rest (eights (omega arith) (omega arith) c.loop-m.invariant) (omega arith) (Some c.in_ok-x.x) c.in_ok-x.ensures

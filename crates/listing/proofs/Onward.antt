@@ -20,7 +20,7 @@ use Rattle.listing.specs.Text.{Anew}
 use Rattle.listing.specs.declared.line.Text.{Text}
 use Rattle.listing.specs.declared.Rest.{Rest}
 use Rattle.listing.specs.declared.Rest.TheVariants.{Lines, End, Long}
-use Rattle.listing.specs.Left.{lines_of, lines_left, other_lines, behind_frame, behind_line, rest_of, WritesLine}
+use Rattle.listing.specs.Left.{lines_of, lines_left, other_lines, behind_frame, behind_line, rest_of, Tells, WritesLine}
 use Rattle.listing.proofs.Writing.{anew_out}
 
 lines_none : (m k : ℕ) → lines_from m k [] ≡ []
@@ -74,30 +74,40 @@ module _ (d : List ℕ) (k at : ℕ) where
         let more : most_records - k ≡ suc (most_records - (k + 1)) = omega arith in
         rw (more, lt-ltb 0 (length (drop at d)) some, e, drop-drop, ended_more)
 
--- a line that is the first of those left
-pub writes : {d t : List ℕ} {from : Rest} {x y : Text} {r : Option Rest} {l : List ℕ} → lines_of d from ≡ l ∷ lines_left d r → rest_of d from ≡ r → Anew t x y
-    → t ≡ l → y.used ≤ line_room → WritesLine d (Some from) x.line.now r y.used y.line.now
-writes e f a g h =
-    record {
-      size = rw (e, ← g) a.size;
-      room = h;
-      text = rw (e, ← g) a.text;
-      out = rw (e, ← g) (anew_out a);
-      lines = rw e;
-      value = sym f;
-    }
+-- a text that is the first of those left, wherever it stands
+pub tells : {d t : List ℕ} {from : Rest} {r : Option Rest} {l : List ℕ} → lines_of d from ≡ l ∷ lines_left d r → rest_of d from ≡ r → t ≡ l → Tells d (Some from) r t
+tells e f g = record { text = rw e g; lines = rw e; value = sym f }
 
 -- the line of a record that stands there
+pub tells_record : {d t : List ℕ} {k : ℕ} (at : ℕ) → at < length d → k < most_records → (p m : ℕ) → seek d 0 at ≡ found p m
+    → t ≡ record_line k (take (p + m - p) (drop p d)) → Tells d (Some (Lines k at)) (Some (Lines (k + 1) (p + m))) t
+tells_record {d} {t} {k} at h few p m e f = let s = stands d at p m e in by s.n s.framed s.here s.size
+  where
+    by : (n : ℕ) → frame_says (drop at d) ≡ answer n → p ≡ at → m ≡ record_length n → Tells d (Some (Lines k at)) (Some (Lines (k + 1) (p + m))) t
+    by n framed here is =
+        let cut : p + m - p ≡ record_length n = omega arith in
+        rw (here, is) (tells (left-more d k at h n few framed) (behind-record d k at h few framed) (f ∙ rw (cut, here)))
+
+-- one that stands at the start of a lent line
+told : {d t : List ℕ} {from r : Option Rest} {x y : Text} → Tells d from r t → Anew t x y → y.used ≤ line_room → WritesLine d from x.line.now r y.used y.line.now
+told w a h =
+    record {
+      size = rw (← w.text) a.size;
+      room = h;
+      text = rw (← w.text) a.text;
+      out = rw (← w.text) (anew_out a);
+      lines = w.lines;
+      value = w.value;
+    }
+
+pub writes : {d t : List ℕ} {from : Rest} {x y : Text} {r : Option Rest} {l : List ℕ} → lines_of d from ≡ l ∷ lines_left d r → rest_of d from ≡ r → Anew t x y
+    → t ≡ l → y.used ≤ line_room → WritesLine d (Some from) x.line.now r y.used y.line.now
+writes e f a g h = told (tells e f g) a h
+
 pub passes : {d t : List ℕ} {x y : Text} {k : ℕ} (at : ℕ) → at < length d → k < most_records → (p m : ℕ) → seek d 0 at ≡ found p m → Anew t x y
     → t ≡ record_line k (take (p + m - p) (drop p d)) → y.used ≤ line_room
     → WritesLine d (Some (Lines k at)) x.line.now (Some (Lines (k + 1) (p + m))) y.used y.line.now
-passes {d} {t} {x} {y} {k} at h few p m e a f room = let s = stands d at p m e in by s.n s.framed s.here s.size
-  where
-    by : (n : ℕ) → frame_says (drop at d) ≡ answer n → p ≡ at → m ≡ record_length n
-        → WritesLine d (Some (Lines k at)) x.line.now (Some (Lines (k + 1) (p + m))) y.used y.line.now
-    by n framed here is =
-        let cut : p + m - p ≡ record_length n = omega arith in
-        rw (here, is) (writes (left-more d k at h n few framed) (behind-record d k at h few framed) a (f ∙ rw (cut, here)) room)
+passes at h few p m e a f room = told (tells_record at h few p m e f) a room
 
 -- at least one is left
 some_left : (d : List ℕ) (from : Rest) → 0 < length (lines_of d from)
@@ -107,11 +117,14 @@ some_left d (End c) = omega arith
 some_left d Long = omega arith
 
 -- what a caller in a loop goes by: each line that is written is one fewer
-pub one_fewer : {d o o' : List ℕ} {r : Option Rest} {used : ℕ} (from : Option Rest) → IsSome from → WritesLine d from o r used o'
-    → length (lines_left d r) < length (lines_left d from)
-one_fewer None h w = let x : false ≡ true = h in cc
-one_fewer {d} (Some from) h w = rw w.lines (by (lines_of d from) (some_left d from))
+pub fewer : {d t : List ℕ} {r : Option Rest} (from : Option Rest) → IsSome from → Tells d from r t → length (lines_left d r) < length (lines_left d from)
+fewer None h w = let x : false ≡ true = h in cc
+fewer {d} (Some from) h w = rw w.lines (by (lines_of d from) (some_left d from))
   where
     by : (ls : List (List ℕ)) → 0 < length ls → length (other_lines ls) < length ls
     by [] h = absurd (omega arith)
     by (l ∷ ls) h = omega arith
+
+pub one_fewer : {d o o' : List ℕ} {r : Option Rest} {used : ℕ} (from : Option Rest) → IsSome from → WritesLine d from o r used o'
+    → length (lines_left d r) < length (lines_left d from)
+one_fewer from h w = fewer from h (record { text = w.text; lines = w.lines; value = w.value })

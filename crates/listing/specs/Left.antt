@@ -57,6 +57,12 @@ pub record Starts (d : List ℕ) (r : Rest) : Type 0 where
   pub lines : lines_of d r ≡ listing_lines d
   pub value : r ≡ all_of d
 
+-- the text t is the first line that is left, nothing where none was left; the others are left then
+pub record Tells (d : List ℕ) (from : Option Rest) (r : Option Rest) (t : List ℕ) : Type 0 where
+  pub text : t ≡ first_line (lines_left d from)
+  pub lines : lines_left d r ≡ other_lines (lines_left d from)
+  pub value : r ≡ rest_after d from
+
 -- the first line that is left stands at the start of the lent line, nothing where none was left, and no byte behind it has changed; the
 -- others are left then
 pub record WritesLine (d : List ℕ) (from : Option Rest) (o : List ℕ) (r : Option Rest) (used : ℕ) (o' : List ℕ) : Type 0 where

@@ -171,4 +171,5 @@ listed =
       start_once = λ d x y s t. s.value ∙ sym t.value;
       next_once = λ d from o s t a b x y v w. (v.value ∙ sym w.value, v.size ∙ sym w.size, v.out ∙ sym w.out);
       text_once = λ d from o p s t a b x y v w. (v.value ∙ sym w.value, v.text ∙ sym w.text);
+      told_once = λ d from s t x y v w. (v.value ∙ sym w.value, v.text ∙ sym w.text);
     }

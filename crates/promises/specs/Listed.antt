@@ -7,7 +7,7 @@ use Rattle.rules.specs.Refusal.{answer}
 use Rattle.rules.specs.Drawer.{append_says, buffer_after}
 use Rattle.rules.specs.Listing.{shape_line, end_line, listing_lines, listing}
 use Rattle.listing.specs.declared.Rest.{Rest}
-use Rattle.listing.specs.Left.{lines_left, first_line, all_of, rest_after, Starts, WritesLine}
+use Rattle.listing.specs.Left.{lines_left, first_line, all_of, rest_after, Starts, Tells, WritesLine}
 
 -- A buffer with u used bytes into which the columns cs were appended, one after the other
 pub data Made : List ℕ → ℕ → List (List ℕ) → Type 0 where
@@ -38,3 +38,5 @@ pub record Listed : Type 0 where
   -- and two texts, whatever lines were lent
   pub text_once : (d : List ℕ) (from : Option Rest) (o p : List ℕ) (s t : Option Rest) (u v : ℕ) (x y : List ℕ) → WritesLine d from o s u x → WritesLine d from p t v y
       → (s ≡ t) × (take u x ≡ take v y)
+  -- and two that tell the same line, wherever they stand
+  pub told_once : (d : List ℕ) (from s t : Option Rest) (x y : List ℕ) → Tells d from s x → Tells d from t y → (s ≡ t) × (x ≡ y)

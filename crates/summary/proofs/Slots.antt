@@ -8,8 +8,8 @@ use mathlib.Core.Bool.{Bool, true, false, cond}
 use mathlib.Core.List.{List}
 use borrow.Author.Tests.{lt-ltb, le-ltb, ltb-true, ltb-false}
 use lib.Dec.{ltb}
-use lib.ListN.{length, get_or, set, replicate, length-set, length-replicate, get_or-replicate}
-use lib.Seq.{get_or-set_same, get_or-set_other}
+use lib.ListN.{length, take, get_or, set, replicate, length-set, length-replicate, get_or-replicate}
+use lib.Seq.{length-take-le, get_or-set_same, get_or-set_other}
 use Rattle.rules.specs.Shape.{Paren}
 use Rattle.rules.specs.Excess.{closing_place}
 use Rattle.rules.specs.Bytes.{most}
@@ -38,6 +38,12 @@ pub written : (l : List ℕ) (m x : ℕ) → l ≡ replicate m none → x < leng
 written l m x e h =
     let k : length l ≡ m = rw e (length-replicate m none) in
     rw e (get_or-replicate m x none 0 (omega (arith, k)))
+
+-- the first 896 numbers of a longer summary, each 65,535
+pub blanked : (t : List ℕ) {t₀ t₁ : List ℕ} → slots ≤ length t → t₀ ≡ take slots t → t₁ ≡ replicate (length t₀) none → Holds (λ y. none) t₁
+blanked t {t₀} {t₁} room part e =
+    let size : length t₁ ≡ slots = rw (e, length-replicate, part) (length-take-le slots t room) in
+    record { size = size; first = λ x h. written t₁ (length t₀) x e (omega (arith, size)) }
 
 -- ---- a block's numbers
 

@@ -125,6 +125,10 @@ fewer {d} (Some from) h w = rw w.lines (by (lines_of d from) (some_left d from))
     by [] h = absurd (omega arith)
     by (l ∷ ls) h = omega arith
 
+-- a line that is written tells its text
+pub written_tells : {d o o' : List ℕ} {from r : Option Rest} {used : ℕ} → WritesLine d from o r used o' → Tells d from r (take used o')
+written_tells w = record { text = w.text; lines = w.lines; value = w.value }
+
 pub one_fewer : {d o o' : List ℕ} {r : Option Rest} {used : ℕ} (from : Option Rest) → IsSome from → WritesLine d from o r used o'
     → length (lines_left d r) < length (lines_left d from)
-one_fewer from h w = fewer from h (record { text = w.text; lines = w.lines; value = w.value })
+one_fewer from h w = fewer from h (written_tells w)
